@@ -1,0 +1,9 @@
+// Names as bytes: words, and keys with their segments.
+mod key;
+mod name;
+mod word;
+
+pub use key::is_key;
+pub use key::split_segment;
+pub use name::same_name;
+pub use word::is_word;
