@@ -1,0 +1,24 @@
+mod cells;
+mod denial;
+mod host;
+mod kind;
+mod module;
+mod value;
+
+pub use cells::Cells;
+pub use denial::Cause;
+pub use denial::Denial;
+pub use denial::LoadFault;
+pub use host::Host;
+pub use kind::Kind;
+pub use module::CellEntry;
+pub use module::ImportEntry;
+pub use module::IndirectExport;
+pub use module::LocalExport;
+pub use module::Record;
+pub use module::Request;
+pub use module::StarExport;
+pub use value::Cell;
+pub use value::Fault;
+pub use value::FaultCause;
+pub use value::Value;
