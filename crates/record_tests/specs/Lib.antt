@@ -1,0 +1,2 @@
+pub mod OneKey
+pub mod OneCell

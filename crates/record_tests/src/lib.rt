@@ -1,0 +1,11 @@
+// The smallest host and the smallest record kind, which show that both traits can be met.
+mod one_key;
+mod one_cell;
+
+pub use one_cell::OneCell;
+pub use one_cell::OneCellKind;
+pub use one_key::OneKey;
+pub use one_key::OneKeyHost;
+
+#[cfg(test)]
+mod tests;
