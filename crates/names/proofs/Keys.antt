@@ -96,7 +96,7 @@ pub splits-at : (p : Name) (i : ℕ) → every not-slash (take i p) ≡ true →
 splits-at p i h l e =
     let more : take (length p - (i + 1)) (drop (i + 1) p) ≡ drop (i + 1) p = take-rest p (i + 1) in
     let here : take i p ++ (47 ∷ drop (i + 1) p) ≡ p =
-        ap (λ b. take i p ++ (b ∷ drop (i + 1) p)) (sym e) ∙ ap (λ k. take i p ++ (getD p i 0 ∷ drop k p)) (add-one i) ∙ sym (split-at p i 0 l) in
+    ap (λ b. take i p ++ (b ∷ drop (i + 1) p)) (sym e) ∙ ap (λ k. take i p ++ (getD p i 0 ∷ drop k p)) (add-one i) ∙ sym (split-at p i 0 l) in
     rw (sub-zero, more) (sym (ap parts here) ∙ parts-cut (take i p) (drop (i + 1) p) h, here)
 
 -- there is none

@@ -1,3 +1,4 @@
+pub mod Distinct
 pub mod Every
 pub mod Keys
 pub mod Words

@@ -30,7 +30,10 @@ fn are_segment_bytes(bytes: &[u8]) -> bool
 fn is_segment(bytes: &[u8]) -> bool
     ensures { λ r. ⌜ r ≡ segment (now (bytes .entry)) ⌝ }
 {
-    are_segment_bytes(bytes) && !same_name(bytes, b"") && !same_name(bytes, b".") && !same_name(bytes, b"..")
+    are_segment_bytes(bytes)
+        && !same_name(bytes, b"")
+        && !same_name(bytes, b".")
+        && !same_name(bytes, b"..")
 }
 
 // The part of a path before its first `/`, and what stands behind that, if there is one.

@@ -38,13 +38,13 @@ cell-entry e = record { name = bytes-of (e .name); byte = e .byte }
 -- a record by its contents
 abbrev pub plain : Record → Module
 plain r = record {
-    requests = map request (vec-items (r .requests));
-    imports = map import-entry (vec-items (r .imports));
-    locals = map local-export (vec-items (r .locals));
-    indirects = map indirect-export (vec-items (r .indirects));
-    stars = map star-export (vec-items (r .stars));
-    cells = map cell-entry (vec-items (r .cells))
-  }
+  requests = map request (vec-items (r .requests));
+  imports = map import-entry (vec-items (r .imports));
+  locals = map local-export (vec-items (r .locals));
+  indirects = map indirect-export (vec-items (r .indirects));
+  stars = map star-export (vec-items (r .stars));
+  cells = map cell-entry (vec-items (r .cells));
+}
 
 -- what a read answers, by its contents
 abbrev pub read-answer : Result (RefT Record) LoadFault → Reading

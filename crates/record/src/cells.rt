@@ -15,7 +15,9 @@ impl Cells {
     pub fn new() -> Cells
         ensures { λ r. ⌜ r .rows ≡ blank ⌝ }
     {
-        Cells { rows: [[Cell::Empty; 32]; 32] }
+        Cells {
+            rows: [[Cell::Empty; 32]; 32],
+        }
     }
 
     // What a cell holds; where there is none, it is empty.

@@ -25,7 +25,12 @@ pub trait Kind {
         ensures { λ r. ⌜ read-answer r ≡ meaning (now (self .entry)) .reading place ⌝ };
 
     // Runs the body at a place, whose import entries lead to these bindings.
-    fn run(&mut self, place: usize, imports: &[(usize, usize)], cells: &mut Cells) -> Result<(), Fault>
+    fn run(
+        &mut self,
+        place: usize,
+        imports: &[(usize, usize)],
+        cells: &mut Cells,
+    ) -> Result<(), Fault>
         ensures runs { λ r. ⌜ Runs (meaning (now (self .entry))) place (now (imports .entry)) (now (cells .entry) .rows) r (now (cells .exit) .rows) ⌝ }
         ensures keeps { λ _. ⌜ meaning (now (self .exit)) ≡ meaning (now (self .entry)) ⌝ }
         ensures counts { λ _. ⌜ trail (now (self .exit)) ≡ (trail (now (self .entry)) + meaning (now (self .entry)) .adds place) % (2 ^ 64) ⌝ };

@@ -25,6 +25,6 @@ read-as r (readable s) = s
 pub storing-lawful : (r : Module) (v : Value) → well-formed r ≡ true → Lawful-kind (storing r v)
 unfolding read-as
 storing-lawful r v ok = record {
-    records-are-well-formed = λ m s e. sym (ap well-formed (ap (read-as r) e)) ∙ ok;
-    bodies-keep-the-number-of-cells = λ m bs held own. length-set own 0 (Full v)
-  }
+  records-are-well-formed = λ m s e. sym (ap well-formed (ap (read-as r) e)) ∙ ok;
+  bodies-keep-the-number-of-cells = λ m bs held own. length-set own 0 (Full v);
+}

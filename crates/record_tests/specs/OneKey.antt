@@ -35,8 +35,8 @@ is-a k m e = sameBytes-decides k (codes "a") .0 (holds (sameBytes k (codes "a"))
 
 pub lawful-hosting : Lawful-host hosting
 lawful-hosting = record {
-    keys-are-keys = λ k m e. key-decides k .0 (ap Rattle.names.specs.Keys.key (is-a k m e));
-    places-of-keys-are-below-32 = λ k m e. below _ m e;
-    each-key-has-its-own-place = λ j k m e f. is-a j m e ∙ sym (is-a k m f);
-    followed-places-are-below-32 = λ m x n e. below _ n e
-  }
+  keys-are-keys = λ k m e. key-decides k .0 (ap Rattle.names.specs.Keys.key (is-a k m e));
+  places-of-keys-are-below-32 = λ k m e. below _ m e;
+  each-key-has-its-own-place = λ j k m e f. is-a j m e ∙ sym (is-a k m f);
+  followed-places-are-below-32 = λ m x n e. below _ n e;
+}

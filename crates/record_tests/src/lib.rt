@@ -1,6 +1,6 @@
 // The smallest host and the smallest record kind, which show that both traits can be met.
-mod one_key;
 mod one_cell;
+mod one_key;
 
 pub use one_cell::OneCell;
 pub use one_cell::OneCellKind;

@@ -31,9 +31,16 @@ impl OneCell {
         ensures { λ r. ⌜ made r (λ k. plain (k .same) ≡ one-cell) ⌝ }
     {
         let mut cells = Vec::new(heap);
-        cells.push(CellEntry { name: Name::new(heap, b"x")?, byte: 0 })?;
+        cells.push(CellEntry {
+            name: Name::new(heap, b"x")?,
+            byte: 0,
+        })?;
         let mut locals = Vec::new(heap);
-        locals.push(LocalExport { export_name: Name::new(heap, b"x")?, cell: 0, byte: 0 })?;
+        locals.push(LocalExport {
+            export_name: Name::new(heap, b"x")?,
+            cell: 0,
+            byte: 0,
+        })?;
         let same = Record {
             requests: Vec::new(heap),
             imports: Vec::new(heap),
@@ -42,7 +49,11 @@ impl OneCell {
             stars: Vec::new(heap),
             cells,
         };
-        Ok(OneCell { same, value, runs: 0 })
+        Ok(OneCell {
+            same,
+            value,
+            runs: 0,
+        })
     }
 }
 
@@ -57,7 +68,12 @@ pub impl Kind for OneCell as OneCellKind {
         Ok(&self.same)
     }
 
-    fn run(&mut self, place: usize, _imports: &[(usize, usize)], cells: &mut Cells) -> Result<(), Fault> {
+    fn run(
+        &mut self,
+        place: usize,
+        _imports: &[(usize, usize)],
+        cells: &mut Cells,
+    ) -> Result<(), Fault> {
         cells.store(place, 0, self.value);
         self.runs = self.runs.wrapping_add(1);
         Ok(())

@@ -13,12 +13,13 @@ loop-o-again g c =
     let value = g .T·Same .value in
     let same = g .T·Same .same in
     let before = c .loop-o .yielded in
-    let o = c .in-Some .o in
-    ( c .join-all .ensures .values
-      ∙ ap (λ q. joined same q (valued value o)) (c .loop-o .inv .0)
-      ∙ sym (joined-all-push same (g .T·Same .decides) (valued-all value before) (valued value o))
-      ∙ ap (joined-all same) (sym (map-append (valued value) before (o ∷ [])))
-    , append-assoc before (o ∷ []) _ ∙ ap (λ q. before ++ q) (sym (c .in-Some .ensures tt .steps .0)) ∙ c .loop-o .inv .1 )
+    let o = c .in-Some .o in (
+      c .join-all .ensures .values
+          ∙ ap (λ q. joined same q (valued value o)) (c .loop-o .inv .0)
+          ∙ sym (joined-all-push same (g .T·Same .decides) (valued-all value before) (valued value o))
+          ∙ ap (joined-all same) (sym (map-append (valued value) before (o ∷ []))),
+      append-assoc before (o ∷ []) _ ∙ ap (λ q. before ++ q) (sym (c .in-Some .ensures tt .steps .0)) ∙ c .loop-o .inv .1,
+    )
 
 pub returns : need.returns
 returns g c =
