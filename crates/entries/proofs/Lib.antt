@@ -1,2 +1,3 @@
 pub mod Unique
 pub mod Seeing
+pub mod Fronts

@@ -1,5 +1,6 @@
 -- A loop that looks for a name among those seen, and what it finds.
 use mathlib.Core.Path.{_≡_, refl, sym, _∙_, ap}
+use mathlib.Core.Logic.{_⊎_, inl, inr}
 use mathlib.Core.Bool.{Bool, true, false, cond, _||_}
 use mathlib.Core.List.{List, [], _∷_, map}
 use Prim.Native.Nat.{ℕ, _+_, _<_, _≤_}
@@ -11,7 +12,8 @@ use Rattle.std.specs.declared.option.Option.{Option}
 use Rattle.std.specs.declared.option.Option.the-variants.{Some, None}
 use Rattle.std.specs.shelf.Text.{sameBytes}
 use Rattle.std.proofs.shelf.Lists.{drop-more, drop-all}
-use Rattle.std.proofs.shelf.Tests.{le-leb, lt-leb, cond-true, cond-false}
+use Rattle.std.specs.Options.{isSome}
+use Rattle.std.proofs.shelf.Tests.{le-leb, lt-leb, leb-true, leb-false, cond-true, cond-false, true≢false, false≢true}
 use Rattle.names.specs.Names.{Name, among}
 use Rattle.entries.specs.declared.stop.Stop.{Stop}
 use Rattle.entries.specs.declared.stop.Stop.the-variants.{TooMany, Repeated}
@@ -44,3 +46,20 @@ module _ (xs : List Name) (x : Name) where
 
     pub refuses-no-other : among xs x ≡ false → None ≡ refusal xs x
     refuses-no-other e = sym (second ∙ cond-false _ _ _ e)
+
+refused-if : (xs : List Name) (x : Name) (t u : Bool) → leb 32 (length xs) ≡ t → among xs x ≡ u → isSome (cond t (Some TooMany) (cond u (Some Repeated) None)) ≡ true → (32 ≤ length xs) ⊎ ((length xs < 32) × (among xs x ≡ true))
+refused-if xs x true u p q e = inl (leb-true 32 (length xs) p)
+refused-if xs x false true p q e = inr (leb-false 32 (length xs) p, q)
+refused-if xs x false false p q e = absurd (false≢true e)
+
+passed-if : (xs : List Name) (x : Name) (t u : Bool) → leb 32 (length xs) ≡ t → among xs x ≡ u → isSome (cond t (Some TooMany) (cond u (Some Repeated) None)) ≡ false → (length xs < 32) × (among xs x ≡ false)
+passed-if xs x true u p q e = absurd (true≢false e)
+passed-if xs x false true p q e = absurd (true≢false e)
+passed-if xs x false false p q e = (leb-false 32 (length xs) p, q)
+
+-- what a refusal says of the names
+pub refused-since : (xs : List Name) (x : Name) → isSome (refusal xs x) ≡ true → (32 ≤ length xs) ⊎ ((length xs < 32) × (among xs x ≡ true))
+refused-since xs x e = refused-if xs x _ _ refl refl e
+
+pub passed-since : (xs : List Name) (x : Name) → isSome (refusal xs x) ≡ false → (length xs < 32) × (among xs x ≡ false)
+passed-since xs x e = passed-if xs x _ _ refl refl e

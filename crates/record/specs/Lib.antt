@@ -4,3 +4,4 @@ pub mod Modules
 pub mod Meanings
 pub mod Plain
 pub mod Runs
+pub mod Memory

@@ -2,6 +2,7 @@ mod cells;
 mod denial;
 mod host;
 mod kind;
+mod memory;
 mod module;
 mod value;
 
@@ -11,6 +12,10 @@ pub use denial::Denial;
 pub use denial::LoadFault;
 pub use host::Host;
 pub use kind::Kind;
+pub use memory::DenialFromAlloc;
+pub use memory::DenialFromRefused;
+pub use memory::LoadFaultFromAlloc;
+pub use memory::LoadFaultFromRefused;
 pub use module::CellEntry;
 pub use module::ImportEntry;
 pub use module::IndirectExport;
