@@ -61,9 +61,9 @@ comes-apart d e r s f g h =
 
 pub lawful : Lawful-format format
 lawful = record {
-    has-a-byte = λ e h. never (length (e .key ++ e .payload)) h;
-    comes-apart = λ d e r s g h. comes-apart d e r s (good-fits d g) (good-fits e h);
-  }
+  has-a-byte = λ e h. never (length (e .key ++ e .payload)) h;
+  comes-apart = λ d e r s g h. comes-apart d e r s (good-fits d g) (good-fits e h);
+}
   where
     never : (n : ℕ) → suc (suc (suc n)) ≡ 0 → ⊥
     never n h = omega arith

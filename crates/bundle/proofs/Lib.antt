@@ -1,3 +1,4 @@
 pub mod Lawful
 pub mod Taking
 pub mod Reading
+pub mod Writing

@@ -83,9 +83,9 @@ head-byte h k e = by (ltb h 64) (ltb h 128) refl refl k e
 
 -- an entry is taken
 module _ (s : List ℕ) (k : PayloadKind) (x y behind more : List ℕ) (long : 3 ≤ length s) (kind : Some k ≡ kind-of (getD s 0 0))
-  (front : take (length s - 3) (drop 3 s) ≡ x ++ behind) (back : behind ≡ y ++ more)
-  (x-size : length x ≡ getD s 0 0 % 64) (y-size : length y ≡ getD s 1 0 * 256 + getD s 2 0)
-  (high : getD s 1 0 < 256) (low : getD s 2 0 < 256) (is-key : key x ≡ true) where
+    (front : take (length s - 3) (drop 3 s) ≡ x ++ behind) (back : behind ≡ y ++ more)
+    (x-size : length x ≡ getD s 0 0 % 64) (y-size : length y ≡ getD s 1 0 * 256 + getD s 2 0)
+    (high : getD s 1 0 < 256) (low : getD s 2 0 < 256) (is-key : key x ≡ true) where
   pub taken-whole : encoded (record { kind = k; key = x; payload = y }) ++ more ≡ s
   taken-whole =
       let a : 64 * kind-number k + length x ≡ getD s 0 0 = ap (λ n. 64 * kind-number k + n) x-size ∙ head-byte (getD s 0 0) k kind in

@@ -59,7 +59,7 @@ pub record First-misplaced (es : List Entry) (byte : ℕ) : Type 0 where
 
 -- entries are written if they are well formed and not too long in all
 pub data Unwritable (es : List Entry) : Denial → Type 0 where
-  too-long : 65536 < length (all-encoded format es) → Unwritable es (malformed-at 65536)
+  too-large : 65536 < length (all-encoded format es) → Unwritable es (malformed-at 65536)
   misplaced : {byte : ℕ} → length (all-encoded format es) ≤ 65536 → First-misplaced es byte → Unwritable es (malformed-at byte)
 
 pub record Written (es : List Entry) (s : List ℕ) : Type 0 where

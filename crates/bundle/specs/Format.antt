@@ -1,6 +1,6 @@
 -- How a bundle is written.
 use mathlib.Core.Bool.{Bool, cond, _&&_}
-use mathlib.Core.List.{List, _∷_, _++_, map}
+use mathlib.Core.List.{List, [], _∷_, _++_, map}
 use Prim.Native.Nat.{ℕ, _+_, _*_, _/_, _%_}
 use lib.Dec.{ltb}
 use lib.ListN.{length}
@@ -34,9 +34,13 @@ kind-number SyntheticList = 1
 abbrev pub kind-of : ℕ → Option PayloadKind
 kind-of head = cond (ltb head 64) (Some Text) (cond (ltb head 128) (Some SyntheticList) None)
 
--- 2 bits kind, 6 bits key length, 16 bits payload length, the key, the payload; the top bit stands first
+-- 2 bits kind, 6 bits key length, 16 bits payload length; the top bit stands first
+abbrev pub head-bytes : Entry → List ℕ
+head-bytes e = (64 * kind-number (e .kind) + length (e .key)) ∷ (length (e .payload) / 256) ∷ (length (e .payload) % 256) ∷ []
+
+-- these, the key, and the payload
 abbrev pub encoded : Entry → List ℕ
-encoded e = (64 * kind-number (e .kind) + length (e .key)) ∷ (length (e .payload) / 256) ∷ (length (e .payload) % 256) ∷ (e .key ++ e .payload)
+encoded e = head-bytes e ++ (e .key ++ e .payload)
 
 -- its key is one, and the payload's length fits its 16 bits
 abbrev pub good : Entry → Bool
@@ -61,3 +65,8 @@ plain-first (Some x) = Some (plain (x .0), x .1 .now)
 abbrev pub plain-read : Result (Vec code.Entry Global) Denial → Result (List Entry) Denial
 plain-read (Ok v) = Ok (plain-all (vec-items v))
 plain-read (Err d) = Err d
+
+-- what a write answers, by its contents
+abbrev pub plain-written : Result (Vec ℕ Global) Denial → Result (List ℕ) Denial
+plain-written (Ok v) = Ok (vec-items v)
+plain-written (Err d) = Err d

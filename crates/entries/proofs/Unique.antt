@@ -39,18 +39,22 @@ module _ {E : Type 0} (F : Format E) where
       let q = and-parts (leb (length es) 32) (distinct (map (F .name) es)) (p .1) in
       record { each = p .0; few = leb-true (length es) 32 (q .0); apart = q .1 }
 
-  module _ (s : List ℕ) (es : List E) (rest : List ℕ) (f : Front F s es rest) where
-    -- one entry more
-    pub front-more : (e : E) (rest′ : List ℕ) → F .encoded e ++ rest′ ≡ rest → F .good e ≡ true → length es < 32 → among (map (F .name) es) (F .name e) ≡ false → Front F s (es ++ (e ∷ [])) rest′
-    front-more e rest′ is g l a = record {
-      all = ap (λ l. l ++ rest′) (all-encoded-append es (e ∷ []) ∙ ap (λ l. all-encoded F es ++ l) (append-nil (F .encoded e)))
-          ∙ append-assoc (all-encoded F es) (F .encoded e) rest′ ∙ ap (λ l. all-encoded F es ++ l) is ∙ f .all;
-      well = and-from _ _
-          (every-append (F .good) es (e ∷ []) ∙ and-from _ _ (parts es (f .well) .each) (and-from _ _ g refl))
-          (and-from _ _
-          (le-leb _ 32 (let n = length-append es (e ∷ []) in omega arith))
-          (ap distinct (map-append (F .name) es (e ∷ [])) ∙ distinct-push (map (F .name) es) (F .name e) (parts es (f .well) .apart) a));
-    }
+  -- one entry more
+  pub well-formed-more : (es : List E) (e : E) → well-formed F es ≡ true → F .good e ≡ true → length es < 32 → among (map (F .name) es) (F .name e) ≡ false → well-formed F (es ++ (e ∷ [])) ≡ true
+  well-formed-more es e w g l a =
+      let p = parts es w in
+      and-from _ _
+      (every-append (F .good) es (e ∷ []) ∙ and-from _ _ (p .each) (and-from _ _ g refl))
+      (and-from _ _
+      (le-leb _ 32 (let n = length-append es (e ∷ []) in omega arith))
+      (ap distinct (map-append (F .name) es (e ∷ [])) ∙ distinct-push (map (F .name) es) (F .name e) (p .apart) a))
+
+  pub front-more : (s : List ℕ) (es : List E) (rest : List ℕ) → Front F s es rest → (e : E) (rest′ : List ℕ) → F .encoded e ++ rest′ ≡ rest → F .good e ≡ true → length es < 32 → among (map (F .name) es) (F .name e) ≡ false → Front F s (es ++ (e ∷ [])) rest′
+  front-more s es rest f e rest′ is g l a = record {
+    all = ap (λ l. l ++ rest′) (all-encoded-append es (e ∷ []) ∙ ap (λ l. all-encoded F es ++ l) (append-nil (F .encoded e)))
+        ∙ append-assoc (all-encoded F es) (F .encoded e) rest′ ∙ ap (λ l. all-encoded F es ++ l) is ∙ f .all;
+    well = well-formed-more es e (f .well) g l a;
+  }
 
   -- one of two fronts goes on where the other ends
   data Goes-on (es : List E) (rest : List ℕ) (fs : List E) (rest′ : List ℕ) : Type 0 where

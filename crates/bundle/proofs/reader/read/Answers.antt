@@ -4,7 +4,7 @@ use Rattle.std.specs.declared.result.Result.the-variants.{Err}
 use Rattle.bundle.specs.Format.{plain-read}
 use Rattle.bundle.specs.Bundles.{Out-of-memory, Refused, too-long}
 use Rattle.bundle.proofs.Reading.{inverts}
-use Rattle.bundle.proofs.read.read.Needs as need
+use Rattle.bundle.proofs.reader.read.Needs as need
 
 pub returns-then-bytes-gt65536 : need.returns-then-bytes-gt65536
 returns-then-bytes-gt65536 c =

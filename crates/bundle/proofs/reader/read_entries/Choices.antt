@@ -6,7 +6,7 @@ use Rattle.std.specs.Of.Vec.{vec-items}
 use Rattle.entries.specs.Entries.{Front}
 use Rattle.entries.specs.Seen.{seen}
 use Rattle.bundle.specs.Format.{format, plain-all}
-use Rattle.bundle.proofs.read.read_entries.Given as given
+use Rattle.bundle.proofs.reader.read_entries.Given as given
 
 abbrev pub Inv-loop-rest : given.InvT-loop-rest
 Inv-loop-rest l =

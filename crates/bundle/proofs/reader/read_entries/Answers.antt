@@ -13,7 +13,7 @@ use Rattle.entries.specs.Entries.{Front}
 use Rattle.entries.specs.Seen.{seen}
 use Rattle.bundle.specs.Format.{plain, plain-all, format}
 use Rattle.bundle.proofs.Reading.{no-entry, no-room, one-more, all-read, rest-shrinks}
-use Rattle.bundle.proofs.read.read_entries.Needs as need
+use Rattle.bundle.proofs.reader.read_entries.Needs as need
 
 pub returns-in-rest : need.returns-in-rest
 returns-in-rest c =
@@ -36,10 +36,11 @@ loop-rest-again c =
     let front = one-more (c .args .bytes .now) before _ (c .loop-rest .inv .0) x (c .in-Some .more .now) (seen (c .loop-rest .seen)) (c .in-Some .ensures tt) (c .loop-rest .inv .1) (ap isSome (sym (c .refusal .ensures)) ∙ sym (c .is-some .ensures) ∙ c .if-is-some .left) in
     let less = rest-shrinks (c .loop-rest .rest .now) x (c .in-Some .more .now) (c .in-Some .ensures tt) in
     let names : seen (c .add .last .self) ≡ map (λ e. e .key) (plain-all (vec-items (c .push .last .self))) =
-        c .in-Continue-add .ensures tt ∙ ap (λ ns. ns ++ (x .key ∷ [])) (c .loop-rest .inv .1) ∙ sym (map-append (λ e. e .key) before (x ∷ [])) ∙ ap (map (λ e. e .key)) (sym pushed) in
-    ( subst (λ es. Front format (c .args .bytes .now) es (c .in-Some .more .now)) (sym pushed) front
-    , names
-    , omega (arith, c .loop-rest .inv .2) )
+    c .in-Continue-add .ensures tt ∙ ap (λ ns. ns ++ (x .key ∷ [])) (c .loop-rest .inv .1) ∙ sym (map-append (λ e. e .key) before (x ∷ [])) ∙ ap (map (λ e. e .key)) (sym pushed) in (
+      subst (λ es. Front format (c .args .bytes .now) es (c .in-Some .more .now)) (sym pushed) front,
+      names,
+      omega (arith, c .loop-rest .inv .2),
+    )
 
 pub returns : need.returns
 returns c = all-read (c .args .bytes .now) _ _ (c .loop-rest .inv .0) (eqb-true (length (c .loop-rest .rest .now)) 0 (sym (c .is-empty .ensures) ∙ c .loop-rest-test .left)) (c .pre)

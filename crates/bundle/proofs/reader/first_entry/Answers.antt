@@ -4,7 +4,7 @@ use native.Mathlib.Omega.{arith}
 use borrow.Author.Tests.{leb-false}
 use lib.ListN.{length, getD}
 use Rattle.bundle.proofs.Taking.{cut-short, no-key, taken-whole, taken-good}
-use Rattle.bundle.proofs.read.first_entry.Needs as need
+use Rattle.bundle.proofs.reader.first_entry.Needs as need
 
 pub returns-then-tail-key-len : need.returns-then-tail-key-len
 returns-then-tail-key-len c = cut-short (c .args .bytes .now) (c .if-tail-key-len .taken)
