@@ -4,6 +4,7 @@ mod host;
 mod kind;
 mod memory;
 mod module;
+mod show;
 mod value;
 
 pub use cells::Cells;
@@ -23,6 +24,10 @@ pub use module::LocalExport;
 pub use module::Record;
 pub use module::Request;
 pub use module::StarExport;
+pub use show::CauseDisplay;
+pub use show::DenialDisplay;
+pub use show::FaultCauseDisplay;
+pub use show::ValueDisplay;
 pub use value::Cell;
 pub use value::Fault;
 pub use value::FaultCause;

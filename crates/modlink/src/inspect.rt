@@ -1,0 +1,51 @@
+// What a bundle holds, line by line.
+use bundle::Entry;
+use bundle::PayloadKind;
+use names::Shown;
+use names::ShownDisplay;
+use record::DenialDisplay;
+use std::error::AnyError;
+use std::fs;
+
+fn kind_name(kind: PayloadKind) -> &'static str {
+    match kind {
+        PayloadKind::Text => "text",
+        PayloadKind::List => "list",
+    }
+}
+
+fn show_module(rt: &LibcRuntime, place: usize, entry: &Entry<'_>) -> Result<(), AnyError> {
+    println!(rt, "{place} {} {} {} bytes", Shown(entry.key), kind_name(entry.kind), entry.payload.len())?;
+    Ok(())
+}
+
+// Shows a bundle, or the denial that reading it gives.
+pub fn show_bundle(rt: &LibcRuntime, bytes: &[u8]) -> Result<(), AnyError> {
+    let entries = match bundle::read(rt.alloc(), bytes) {
+        Ok(entries) => entries,
+        Err(denial) => {
+            println!(rt, "{denial}")?;
+            return Ok(());
+        }
+    };
+    println!(rt, "bundle of {} bytes, {} modules", bytes.len(), entries.len())?;
+    for (place, entry) in entries.iter().enumerate() {
+        show_module(rt, place, entry)?;
+    }
+    Ok(())
+}
+
+pub fn read_file(rt: &LibcRuntime, path: &str) -> Result<Vec<u8>, AnyError> {
+    match fs::read(rt, path) {
+        Ok(bytes) => Ok(bytes),
+        Err(e) => Err(format!(rt.alloc(), "cannot read {path}: {e}")?.into()),
+    }
+}
+
+pub fn inspect_file(rt: &LibcRuntime, args: &[String]) -> Result<(), AnyError> {
+    let [path] = args else {
+        return Err("inspect takes one bundle: modlink inspect BUNDLE".into());
+    };
+    let bytes = read_file(rt, path.as_str())?;
+    show_bundle(rt, bytes.as_slice())
+}
