@@ -35,8 +35,9 @@ impl Cells {
     pub fn store(&mut self, place: usize, cell: usize, value: Value)
         ensures { λ _. ⌜ now (self .exit) .rows ≡ stored (now (self .entry) .rows) (place, cell) value ⌝ }
     {
+        let full = Cell::Full(value);
         if place < 32 && cell < 32 {
-            self.rows[place][cell] = Cell::Full(value);
+            self.rows[place][cell] = full;
         }
     }
 }

@@ -7,15 +7,28 @@ use crate::denial::LoadFault;
 use std::alloc::AllocError;
 use std::alloc::Refused;
 
+fn out_of_memory() -> Denial
+    ensures { λ r. ⌜ r ≡ memory-denial ⌝ }
+{
+    Denial {
+        cause: Cause::OutOfMemory,
+        place: None,
+        byte: 0,
+    }
+}
+
+fn no_memory_to_load() -> LoadFault
+    ensures { λ r. ⌜ r ≡ memory-fault ⌝ }
+{
+    let Denial { cause, byte, .. } = out_of_memory();
+    LoadFault { cause, byte }
+}
+
 pub impl From<AllocError> for Denial as DenialFromAlloc {
     ghost converts = { λ _ r. r ≡ memory-denial };
 
     fn from(_e: AllocError) -> Denial {
-        Denial {
-            cause: Cause::OutOfMemory,
-            place: None,
-            byte: 0,
-        }
+        out_of_memory()
     }
 }
 
@@ -23,11 +36,7 @@ pub impl<T: Drop> From<Refused<T>> for Denial as DenialFromRefused {
     ghost converts = { λ _ r. r ≡ memory-denial };
 
     fn from(_e: Refused<T>) -> Denial {
-        Denial {
-            cause: Cause::OutOfMemory,
-            place: None,
-            byte: 0,
-        }
+        out_of_memory()
     }
 }
 
@@ -35,10 +44,7 @@ pub impl From<AllocError> for LoadFault as LoadFaultFromAlloc {
     ghost converts = { λ _ r. r ≡ memory-fault };
 
     fn from(_e: AllocError) -> LoadFault {
-        LoadFault {
-            cause: Cause::OutOfMemory,
-            byte: 0,
-        }
+        no_memory_to_load()
     }
 }
 
@@ -46,9 +52,6 @@ pub impl<T: Drop> From<Refused<T>> for LoadFault as LoadFaultFromRefused {
     ghost converts = { λ _ r. r ≡ memory-fault };
 
     fn from(_e: Refused<T>) -> LoadFault {
-        LoadFault {
-            cause: Cause::OutOfMemory,
-            byte: 0,
-        }
+        no_memory_to_load()
     }
 }
