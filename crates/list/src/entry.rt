@@ -5,6 +5,7 @@ use names::is_word;
 use record::Value;
 
 // An entry in front of a byte string: its name, its value, and the bytes behind it.
+#[derive(Clone, Copy)]
 pub(crate) struct Entry<'a> {
     pub name: &'a [u8],
     pub value: Value,
