@@ -2,19 +2,18 @@
 use mathlib.Core.Path.{_≡_, refl, sym, _∙_, ap}
 use mathlib.Core.Logic.{_⊎_, inl, inr}
 use mathlib.Core.Bool.{true, false}
-use mathlib.Core.List.{List, [], _∷_, _++_}
+use mathlib.Core.List.{List, _∷_, _++_}
 use Prim.Native.Nat.{ℕ, _+_, _-_, _*_, _/_, _%_, _≤_, _<_}
 use native.Mathlib.Omega.{arith}
 use denote.Ref.{RefT}
 use lib.ListN.{length, getD, take, drop}
-use Rattle.std.proofs.shelf.Lists.{append-assoc, length-append, length-take-le, length-drop, take-append-drop, take-at, take-rest, drop-at, drop-more}
+use Rattle.std.proofs.shelf.Lists.{append-assoc, length-append, length-take-le, take-append-drop, take-at, take-rest, drop-at, drop-more}
 use Rattle.std.proofs.shelf.Tests.{and-parts, and-from, leb-true, le-leb, both-ways}
 use Rattle.std.specs.declared.option.Option.the-variants.{Some, None}
 use Rattle.names.specs.Words.{word}
 use Rattle.entries.specs.Entries.{Begins, Lawful-format}
 use Rattle.record.specs.declared.value.Value.{Value}
 use Rattle.list.specs.Lists.{Entry, kind, pattern-of, whole, encoded, good, list-format, value}
-use Rattle.list.specs.declared.entry.Entry as rust
 use Rattle.list.specs.Reading.{Reads-content, Read-as}
 use Rattle.list.proofs.Contents.{contents-apart}
 

@@ -1,13 +1,13 @@
 -- Modules made of entries, one more at a time.
 use mathlib.Core.Path.{_≡_, refl, sym, _∙_, ap}
-use mathlib.Core.Bool.{true, _&&_}
+use mathlib.Core.Bool.{true}
 use mathlib.Core.List.{List, [], _∷_, _++_, map}
-use Prim.Native.Nat.{ℕ, suc, _+_, _≤_, _<_}
-use native.Mathlib.Nat.{add-assoc, add-zero, zero-add}
+use Prim.Native.Nat.{ℕ, suc, _+_, _≤_}
+use native.Mathlib.Nat.{add-zero, zero-add}
 use native.Mathlib.Omega.{arith}
-use lib.Dec.{leb, ltb}
-use lib.ListN.{length}
-use Rattle.std.proofs.shelf.Lists.{append-nil, length-append, length-map, map-push}
+use lib.Dec.{ltb}
+use lib.ListN.{length, getD}
+use Rattle.std.proofs.shelf.Lists.{append-nil, length-append}
 use Rattle.std.proofs.shelf.Tests.{and-from, lt-ltb, le-leb}
 use Rattle.names.specs.Names as names
 use Rattle.names.specs.Names.{distinct, every}
@@ -15,11 +15,9 @@ use Rattle.names.specs.Owned.{bytes-of}
 use Rattle.names.specs.declared.name.Name.{Name}
 use Rattle.entries.specs.Entries as entries
 use Rattle.entries.proofs.Unique as unique
-use Rattle.record.specs.declared.module.LocalExport.{LocalExport}
-use Rattle.record.specs.declared.module.CellEntry.{CellEntry}
 use Rattle.record.specs.Modules.{Declared, Local, Module, export-count, well-formed}
 use Rattle.record.specs.Plain.{local-export, cell-entry}
-use Rattle.list.specs.Lists.{Entry, encoded, list-format, cells-from, locals-from, module-of}
+use Rattle.list.specs.Lists.{Entry, encoded, list-format, cells-from, locals-from, module-of, Has-cell, Has-a-cell-for-each-entry}
 use Rattle.list.specs.Modules.{with-entry}
 
 pub local-is : (n : Name) (x : names.Name) (cell i byte : ℕ) → bytes-of n ≡ x → cell ≡ i → local-export (record { «export_name» = n; cell = cell; byte = byte }) ≡ record { export-name = x; cell = i; byte = byte }
@@ -81,6 +79,38 @@ module _ (e : Entry) where
       ∙ ap (λ j. locals-from 0 0 es ++ (local-at (e .name) (length (cells-from 0 es)) j ∷ [])) (zero-add (size es)))
       (cells-push 0 es ∙ ap (λ j. cells-from 0 es ++ (cell-at (e .name) j ∷ [])) (zero-add (size es)))
 
+length-locals : (cell byte : ℕ) (es : List Entry) → length (locals-from cell byte es) ≡ length es
+length-locals cell byte [] = refl
+length-locals cell byte (e ∷ es) = ap suc (length-locals (cell + 1) (byte + length (encoded e)) es)
+
+module _ (e : Entry) (after : List Entry) where
+  cells-at : (byte : ℕ) (before : List Entry) (d : Declared) → getD (cells-from byte (before ++ (e ∷ after))) (length before) d ≡ cell-at (e .name) (byte + size before)
+  unfolding cell-at size
+  cells-at byte [] d = ap (cell-at (e .name)) (sym (add-zero byte))
+  cells-at byte (b ∷ before) d = cells-at (byte + length (encoded b)) before d ∙ ap (cell-at (e .name)) (size-more b before byte)
+
+  locals-at : (cell byte : ℕ) (before : List Entry) (d : Local) → getD (locals-from cell byte (before ++ (e ∷ after))) (length before) d ≡ local-at (e .name) (cell + length before) (byte + size before)
+  unfolding local-at size
+  locals-at cell byte [] d = let p = add-zero cell in let q = add-zero byte in cc
+  locals-at cell byte (b ∷ before) d =
+      let i : (cell + 1) + length before ≡ cell + length (b ∷ before) = omega arith in
+      locals-at (cell + 1) (byte + length (encoded b)) before d
+      ∙ ap (λ j. local-at (e .name) j ((byte + length (encoded b)) + size before)) i
+      ∙ ap (local-at (e .name) (cell + length (b ∷ before))) (size-more b before byte)
+
+-- the module of a list has a cell and an export for each entry
+pub module-entries : (es : List Entry) → Has-a-cell-for-each-entry es (module-of es)
+unfolding cell-at local-at size
+module-entries es = record { each = at; no-other-cell = length-cells 0 es; no-other-local = length-locals 0 0 es }
+  where
+    at : (before : List Entry) (e : Entry) (after : List Entry) → before ++ (e ∷ after) ≡ es → Has-cell (module-of es) (length before) (e .name) (length (entries.all-encoded list-format before))
+    at before e after is = record {
+      cell = λ d. ap (λ l. getD (cells-from 0 l) (length before) d) (sym is) ∙ cells-at e after 0 before d ∙ ap (cell-at (e .name)) (zero-add (size before));
+      local = λ d. ap (λ l. getD (locals-from 0 0 l) (length before) d) (sym is) ∙ locals-at e after 0 0 before d
+          ∙ ap (λ j. local-at (e .name) j (0 + size before)) (zero-add (length before))
+          ∙ ap (local-at (e .name) (length before)) (zero-add (size before));
+    }
+
 -- the names of the cells and of the exports are those of the entries
 cell-names : (byte : ℕ) (es : List Entry) → map (λ d. d .name) (cells-from byte es) ≡ map (λ e. e .name) es
 cell-names byte [] = refl
@@ -89,10 +119,6 @@ cell-names byte (e ∷ es) = ap (λ l. e .name ∷ l) (cell-names (byte + length
 local-names : (cell byte : ℕ) (es : List Entry) → map (λ l. l .export-name) (locals-from cell byte es) ≡ map (λ e. e .name) es
 local-names cell byte [] = refl
 local-names cell byte (e ∷ es) = ap (λ l. e .name ∷ l) (local-names (cell + 1) (byte + length (encoded e)) es)
-
-length-locals : (cell byte : ℕ) (es : List Entry) → length (locals-from cell byte es) ≡ length es
-length-locals cell byte [] = refl
-length-locals cell byte (e ∷ es) = ap suc (length-locals (cell + 1) (byte + length (encoded e)) es)
 
 cells-in-range : (cell byte : ℕ) (es : List Entry) (n : ℕ) → cell + length es ≤ n → every (λ l. ltb (l .cell) n) (locals-from cell byte es) ≡ true
 cells-in-range cell byte [] n h = refl

@@ -1,6 +1,5 @@
 -- A list being read: what is known behind the entries read so far.
-use mathlib.Core.Path.{_≡_, refl, sym, _∙_, ap}
-use mathlib.Core.Bool.{true, false}
+use mathlib.Core.Path.{_≡_, sym, _∙_, ap, subst}
 use mathlib.Core.List.{List, [], _∷_, _++_, map}
 use Prim.Native.Nat.{ℕ, _-_, _<_, _≤_}
 use native.Mathlib.Omega.{arith}
@@ -19,11 +18,11 @@ use Rattle.record.specs.Modules.{well-formed}
 use Rattle.record.specs.Plain.{plain}
 use Rattle.list.specs.declared.entry.Entry as rust
 use Rattle.list.specs.declared.module.SyntheticModule.{SyntheticModule}
-use Rattle.list.specs.Lists.{Entry, list-format, value, values-of, module-of}
+use Rattle.list.specs.Lists.{Entry, list-format, value, values-of, module-of, Has-a-cell-for-each-entry}
 use Rattle.list.specs.Modules.{with-entry}
-use Rattle.list.specs.Reading.{Read-as, Reads-entry, Is-module}
+use Rattle.list.specs.Reading.{Reads-entry, Is-module}
 use Rattle.list.proofs.Entries.{lawful}
-use Rattle.list.proofs.Modules.{module-push, module-well-formed}
+use Rattle.list.proofs.Modules.{module-push, module-entries, module-well-formed}
 use Rattle.list.proofs.Steps.{byte-is, rest-fits, stops-malformed, stops-refused, goes-on}
 
 -- the entries in front of the rest, which the module and the names seen are made of
@@ -51,6 +50,7 @@ module _ (s : List ℕ) (m : SyntheticModule) (names : List Name) (rest : List �
         record {
           means = means-only list-format lawful s (Ok (f .entries)) front;
           declares = f .declares;
+          cells = subst (Has-a-cell-for-each-entry (f .entries)) (sym (f .declares)) (module-entries (f .entries));
           values = f .values;
           well = ap well-formed (f .declares) ∙ module-well-formed (f .entries) (f .front .well);
         },

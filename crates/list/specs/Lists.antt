@@ -5,10 +5,10 @@ use mathlib.Core.List.{List, [], _∷_, _++_, map}
 use Prim.Native.Nat.{ℕ, _+_, _*_, _^_}
 use lib.Dec.{leb, eqb}
 use lib.Ieee.{binary64, ofBits}
-use lib.ListN.{length}
+use lib.ListN.{length, getD}
 use Rattle.names.specs.Names.{Name}
 use Rattle.names.specs.Words.{word}
-use Rattle.entries.specs.Entries.{Format}
+use Rattle.entries.specs.Entries.{Format, all-encoded}
 use Rattle.record.specs.declared.value.Value.{Value}
 use Rattle.record.specs.declared.value.Value.the-variants.{Undefined, Number}
 use Rattle.record.specs.Modules.{Declared, Local, Module}
@@ -73,3 +73,14 @@ locals-from cell byte (e ∷ es) = record { export-name = e .name; cell = cell; 
 -- a list as a module: each entry is a cell and a local export of that cell, and there is nothing else
 abbrev pub module-of : List Entry → Module
 module-of es = record { requests = []; imports = []; locals = locals-from 0 0 es; indirects = []; stars = []; cells = cells-from 0 es }
+
+-- at index i the module has a cell of this name, and an export of that cell under the name, both with this byte
+pub record Has-cell (m : Module) (i : ℕ) (name : Name) (byte : ℕ) : Type 0 where
+  pub cell : (d : Declared) → getD (m .cells) i d ≡ record { name = name; byte = byte }
+  pub local : (d : Local) → getD (m .locals) i d ≡ record { export-name = name; cell = i; byte = byte }
+
+-- the law of such a module: an entry with others before it has the cell and the export whose index is their number, and their size in bytes as its byte; there are no others
+pub record Has-a-cell-for-each-entry (es : List Entry) (m : Module) : Type 0 where
+  pub each : (before : List Entry) (e : Entry) (after : List Entry) → before ++ (e ∷ after) ≡ es → Has-cell m (length before) (e .name) (length (all-encoded list-format before))
+  pub no-other-cell : length (m .cells) ≡ length es
+  pub no-other-local : length (m .locals) ≡ length es

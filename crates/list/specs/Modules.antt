@@ -1,9 +1,9 @@
 -- Modules, one cell more.
-use mathlib.Core.List.{List, [], _∷_, _++_}
+use mathlib.Core.List.{[], _∷_, _++_}
 use Prim.Native.Nat.{ℕ}
 use lib.ListN.{length}
 use Rattle.names.specs.Names.{Name}
-use Rattle.record.specs.Modules.{Declared, Local, Module}
+use Rattle.record.specs.Modules.{Module}
 
 -- a module with one more cell, which it exports under the cell's name
 abbrev pub with-entry : Module → Name → ℕ → Module

@@ -2,16 +2,14 @@
 use mathlib.Core.Path.{_≡_}
 use mathlib.Core.Logic.{_⊎_}
 use mathlib.Core.Bool.{true}
-use mathlib.Core.List.{List, [], _∷_, _++_}
+use mathlib.Core.List.{List, _++_}
 use Prim.Native.Nat.{ℕ}
-use lib.ListN.{length}
 use denote.Ref.{RefT}
 use Rattle.std.specs.Of.Vec.{vec-items}
 use Rattle.std.specs.declared.option.Option.{Option}
 use Rattle.std.specs.declared.option.Option.the-variants.{Some, None}
 use Rattle.std.specs.declared.result.Result.{Result}
 use Rattle.std.specs.declared.result.Result.the-variants.{Ok, Err}
-use Rattle.names.specs.Names.{Name}
 use Rattle.entries.specs.Entries.{Begins, Means-only}
 use Rattle.entries.specs.declared.stop.Stop.{Stop}
 use Rattle.entries.specs.declared.stop.Stop.the-variants.{Malformed, TooMany, Repeated}
@@ -25,7 +23,7 @@ use Rattle.list.specs.declared.entry.Entry as rust
 use Rattle.list.specs.declared.module.SyntheticModule.{SyntheticModule}
 use Rattle.list.specs.declared.reader.Unread.{Unread}
 use Rattle.list.specs.declared.reader.Unread.the-variants as unread
-use Rattle.list.specs.Lists.{Entry, Content, kind, pattern-of, whole, encoded, good, list-format, value, values-of, module-of}
+use Rattle.list.specs.Lists.{Entry, Content, kind, pattern-of, whole, encoded, good, list-format, value, values-of, module-of, Has-a-cell-for-each-entry}
 
 -- what stands behind a name, for an entry of value kind k: a content with this value, and then the rest; or no such content
 abbrev pub Reads-content : ℕ → List ℕ → Option (Value × RefT (List ℕ)) → Type 0
@@ -48,6 +46,7 @@ Reads-entry s (Some x) = (e : Entry) × Read-as s e x
 pub record Is-module (s : List ℕ) (es : List Entry) (m : SyntheticModule) : Type 0 where
   pub means : Means-only list-format s (Ok es)
   pub declares : plain (m .«record») ≡ module-of es
+  pub cells : Has-a-cell-for-each-entry es (plain (m .«record»))
   pub values : vec-items (m .values) ≡ values-of es
   pub well : well-formed (plain (m .«record»)) ≡ true
 

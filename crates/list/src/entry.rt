@@ -1,8 +1,10 @@
 // One entry of a list.
-ghost use mathlib.Core.Path.{_≡_};
 ghost use Rattle.list.specs.Reading.{Reads-content, Reads-entry};
 use names::is_word;
 use record::Value;
+
+// A name has at most this many bytes.
+const LONGEST_NAME: usize = 31;
 
 // An entry in front of a byte string: its name, its value, and the bytes behind it.
 #[derive(Clone, Copy)]
@@ -40,7 +42,7 @@ pub(crate) fn entry_in<'a>(bytes: &'a [u8]) -> Option<Entry<'a>>
         return None;
     };
     let length = usize::from(*head % 64);
-    if length > 31 || length > behind.len() {
+    if length > LONGEST_NAME || length > behind.len() {
         return None;
     }
     let (name, behind) = behind.split_at(length);

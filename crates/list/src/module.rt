@@ -2,7 +2,6 @@
 ghost use mathlib.Core.Path.{_≡_};
 ghost use mathlib.Core.List.{[], _∷_, _++_};
 ghost use Rattle.std.specs.Of.Vec.{vec-items};
-ghost use Rattle.std.specs.Results.{Cases};
 ghost use Rattle.std.specs.Vec.{made};
 ghost use Rattle.record.specs.Plain.{plain};
 ghost use Rattle.list.specs.Lists.{module-of};
@@ -52,20 +51,17 @@ impl SyntheticModule {
         ensures declares { λ r. ⌜ made r (λ _. plain (now (self .exit) .«record») ≡ with-entry (plain (now (self .entry) .«record»)) (now (name .entry)) byte) ⌝ }
         ensures values { λ r. ⌜ made r (λ _. vec-items (now (self .exit) .values) ≡ vec-items (now (self .entry) .values) ++ (value ∷ [])) ⌝ }
     {
-        let cell = self.record.cells.len();
-        self.record
-            .cells
-            .push(CellEntry {
-                name: Name::new(heap, name)?,
-                byte,
-            })?;
-        self.record
-            .locals
-            .push(LocalExport {
-                export_name: Name::new(heap, name)?,
-                cell,
-                byte,
-            })?;
+        let declared = CellEntry {
+            name: Name::new(heap, name)?,
+            byte,
+        };
+        let exported = LocalExport {
+            export_name: Name::new(heap, name)?,
+            cell: self.record.cells.len(),
+            byte,
+        };
+        self.record.cells.push(declared)?;
+        self.record.locals.push(exported)?;
         self.values.push(value)?;
         Ok(())
     }

@@ -1,15 +1,14 @@
 use mathlib.Core.Path.{refl, sym, _∙_}
 use Prim.Native.Nat.{_≤_}
-use native.Mathlib.Omega.{arith}
 use borrow.Author.Needs.{needs}
 use lib.ListN.{length}
 use Rattle.list.proofs.Entries.{too-long, no-word, no-content, an-entry}
 use Rattle.list.proofs.entry.entry_in.Needs as need
 
-pub returns-then-length-gt31 : need.returns-then-length-gt31
-returns-then-length-gt31 c =
+pub returns-then-length-gt-LONGEST-NAME : need.returns-then-length-gt-LONGEST-NAME
+returns-then-length-gt-LONGEST-NAME c =
     let l : 1 ≤ length (c .args .bytes .now) = search needs in
-    too-long (c .args .bytes .now) l _ (c .from-length .ensures) (c .then-length-gt31 .either)
+    too-long (c .args .bytes .now) l _ (c .from-length .ensures) (c .then-length-gt-LONGEST-NAME .either)
 
 pub returns-then-not-is-word : need.returns-then-not-is-word
 returns-then-not-is-word c =
@@ -26,4 +25,4 @@ pub returns : need.returns
 returns c =
     let l : 1 ≤ length (c .args .bytes .now) = search needs in
     an-entry (c .args .bytes .now) l _ (c .from-length .ensures) _ _ (c .split-at .ensures .front) (c .split-at .ensures .back)
-    (c .split-at .result .0) (c .in-Continue-value .value) (c .in-Continue-value .rest) refl (c .if-length-gt31 .left) (c .if-length-behind .left) (sym (c .is-word .ensures) ∙ c .if-not-is-word .left) (c .in-Continue-value .ensures tt)
+    (c .split-at .result .0) (c .in-Continue-value .value) (c .in-Continue-value .rest) refl (c .if-length-gt-LONGEST-NAME .left) (c .if-length-behind .left) (sym (c .is-word .ensures) ∙ c .if-not-is-word .left) (c .in-Continue-value .ensures tt)

@@ -1,5 +1,4 @@
-use mathlib.Core.Path.{_≡_, sym, _∙_, ap}
-use lib.ListN.{length}
+use mathlib.Core.Path.{sym}
 use Rattle.std.proofs.shelf.Tests.{eqb-true, eqb-false}
 use Rattle.entries.specs.Seen.{seen}
 use Rattle.list.proofs.Reading.{at-first, fits, malformed, whole-list, shorter, refused, one-more-read}
