@@ -1,0 +1,5 @@
+pub mod Contents
+pub mod Entries
+pub mod Modules
+pub mod Steps
+pub mod Reading

@@ -1,0 +1,3 @@
+// Lists by example.
+#[cfg(test)]
+mod tests;
