@@ -1,37 +1,39 @@
 // Both sides of each limit, and that writing and reading agree.
-use crate::made::Outcome;
 use crate::made::numbered;
 use crate::made::one_text;
-use crate::made::outcome;
+use crate::made::is_denied;
+use crate::made::is_read;
 use crate::made::text;
 use bundle::PayloadKind;
 use names::same_name;
 use std::test::*;
 
+const KEY_63: &[u8] = b"kkkkkkkkkkkkkkkkkkkkkkkkkkkkkkkkkkkkkkkkkkkkkkkkkkkkkkkkkkkkkkk";
+const KEY_64: &[u8] = b"kkkkkkkkkkkkkkkkkkkkkkkkkkkkkkkkkkkkkkkkkkkkkkkkkkkkkkkkkkkkkkkk";
+
 #[test]
 fn at_most_32_modules(rt: LibcRuntime) -> Result<(), Fail> {
     let heap = rt.alloc();
-    check_eq(outcome(heap, b""), Outcome::Modules(0))?;
-    check_eq(outcome(heap, numbered(heap, 1)?.as_slice()), Outcome::Modules(1))?;
-    check_eq(outcome(heap, numbered(heap, 32)?.as_slice()), Outcome::Modules(32))?;
-    check_eq(outcome(heap, numbered(heap, 33)?.as_slice()), Outcome::Denied(26 * 4 + 6 * 5))
+    check(is_read(heap, b"", 0))?;
+    check(is_read(heap, numbered(heap, 1)?.as_slice(), 1))?;
+    check(is_read(heap, numbered(heap, 32)?.as_slice(), 32))?;
+    check(is_denied(heap, numbered(heap, 33)?.as_slice(), 26 * 4 + 6 * 5))
 }
 
 #[test]
 fn at_most_65536_bytes(rt: LibcRuntime) -> Result<(), Fail> {
     let heap = rt.alloc();
-    check_eq(outcome(heap, one_text(heap, 65532)?.as_slice()), Outcome::Modules(1))?;
-    check_eq(outcome(heap, one_text(heap, 65533)?.as_slice()), Outcome::Denied(65536))
+    check(is_read(heap, one_text(heap, 65532)?.as_slice(), 1))?;
+    check(is_denied(heap, one_text(heap, 65533)?.as_slice(), 65536))
 }
 
 #[test]
 fn keys_of_63_bytes(rt: LibcRuntime) -> Result<(), Fail> {
     let heap = rt.alloc();
-    let long = [b'k'; 64];
-    check(bundle::write(heap, &[text(&long[0..63], b"")]).is_ok())?;
-    match bundle::write(heap, &[text(b"a", b"xy"), text(&long, b"")]) {
+    check(bundle::write(heap, &[text(KEY_63, b"")]).is_ok())?;
+    match bundle::write(heap, &[text(b"a", b"xy"), text(KEY_64, b"")]) {
         Ok(_) => Err(Fail::new("a key of 64 bytes is written")),
-        Err(d) => check_eq(d.byte, 6),
+        Err(d) => check(d.byte == 6),
     }
 }
 

@@ -1,27 +1,23 @@
 // Bundles made for the tests, and what reading them gives.
 use bundle::Entry;
 use bundle::PayloadKind;
+use record::Cause;
 use std::alloc::AllocError;
 use std::alloc::Global;
 
-// What a read comes to: the number of modules, or the byte of denial 13.
-#[derive(Clone, Copy, PartialEq, Debug)]
-pub enum Outcome {
-    Modules(usize),
-    Denied(usize),
-    Other,
+// Whether this many modules are read.
+pub fn is_read(heap: Global, bytes: &[u8], count: usize) -> bool {
+    match bundle::read(heap, bytes) {
+        Ok(entries) => entries.len() == count,
+        Err(_) => false,
+    }
 }
 
-pub fn outcome(heap: Global, bytes: &[u8]) -> Outcome {
+// Whether the bytes are denied with 13, no place, at this byte.
+pub fn is_denied(heap: Global, bytes: &[u8], byte: usize) -> bool {
     match bundle::read(heap, bytes) {
-        Ok(entries) => Outcome::Modules(entries.len()),
-        Err(d) => {
-            if d.cause.number() == Some(13) && d.place.is_none() {
-                Outcome::Denied(d.byte)
-            } else {
-                Outcome::Other
-            }
-        }
+        Ok(_) => false,
+        Err(d) => matches!(d.cause, Cause::MalformedBundle) && d.place.is_none() && d.byte == byte,
     }
 }
 

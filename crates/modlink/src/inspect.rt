@@ -4,6 +4,7 @@ use bundle::PayloadKind;
 use names::Shown;
 use names::ShownDisplay;
 use record::DenialDisplay;
+use record::ValueDisplay;
 use std::error::AnyError;
 use std::fs;
 
@@ -14,23 +15,40 @@ fn kind_name(kind: PayloadKind) -> &'static str {
     }
 }
 
+// The names and values of a list, or its denial.
+fn show_list(rt: &LibcRuntime, place: usize, payload: &[u8]) -> Result<(), AnyError> {
+    match list::read(rt.alloc(), payload) {
+        Ok(module) => {
+            for (cell, value) in module.record.cells.iter().zip(module.values.iter()) {
+                println!(rt, "    {} = {value}", Shown(cell.name.as_bytes()))?;
+            }
+        }
+        Err(fault) => {
+            let denial = fault.at(place);
+            println!(rt, "    {denial}")?;
+        }
+    }
+    Ok(())
+}
+
 fn show_module(rt: &LibcRuntime, place: usize, entry: &Entry<'_>) -> Result<(), AnyError> {
     println!(rt, "{place} {} {} {} bytes", Shown(entry.key), kind_name(entry.kind), entry.payload.len())?;
-    Ok(())
+    match entry.kind {
+        PayloadKind::Text => Ok(()),
+        PayloadKind::List => show_list(rt, place, entry.payload),
+    }
 }
 
 // Shows a bundle, or the denial that reading it gives.
 pub fn show_bundle(rt: &LibcRuntime, bytes: &[u8]) -> Result<(), AnyError> {
-    let entries = match bundle::read(rt.alloc(), bytes) {
-        Ok(entries) => entries,
-        Err(denial) => {
-            println!(rt, "{denial}")?;
-            return Ok(());
+    match bundle::read(rt.alloc(), bytes) {
+        Ok(entries) => {
+            println!(rt, "bundle of {} bytes, {} modules", bytes.len(), entries.len())?;
+            for (place, entry) in entries.iter().enumerate() {
+                show_module(rt, place, entry)?;
+            }
         }
-    };
-    println!(rt, "bundle of {} bytes, {} modules", bytes.len(), entries.len())?;
-    for (place, entry) in entries.iter().enumerate() {
-        show_module(rt, place, entry)?;
+        Err(denial) => println!(rt, "{denial}")?,
     }
     Ok(())
 }
