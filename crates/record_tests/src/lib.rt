@@ -8,4 +8,6 @@ pub use one_key::OneKey;
 pub use one_key::OneKeyHost;
 
 #[cfg(test)]
+mod outcomes;
+#[cfg(test)]
 mod tests;

@@ -3,6 +3,7 @@ ghost use Rattle.record_tests.specs.OneKey.{hosting, lawful-hosting};
 use names::same_name;
 use record::Host;
 
+#[derive(Clone, Copy)]
 pub struct OneKey;
 
 pub impl Host for OneKey as OneKeyHost {
