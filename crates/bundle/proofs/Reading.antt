@@ -5,54 +5,46 @@ use mathlib.Core.Bool.{Bool, true, false}
 use mathlib.Core.List.{List, [], _∷_, _++_, map, append-nil}
 use Prim.Native.Nat.{ℕ, _-_, _<_, _≤_}
 use native.Mathlib.Omega.{arith}
-use lib.ListN.{length, length-append, length-map}
+use lib.ListN.{length, length-append}
 use Rattle.std.specs.Options.{isSome}
-use Rattle.std.specs.declared.option.Option.the-variants.{Some}
+use Rattle.std.specs.declared.option.Option.{Option}
+use Rattle.std.specs.declared.option.Option.the-variants.{Some, None}
+use Rattle.std.proofs.shelf.Tests.{true≢false, false≢true}
 use Rattle.std.specs.declared.result.Result.{Result}
 use Rattle.std.specs.declared.result.Result.the-variants.{Ok, Err}
-use Rattle.names.specs.Names.{Name, among}
+use Rattle.names.specs.Names.{Name}
 use Rattle.record.specs.declared.denial.Denial.{Denial}
 use Rattle.entries.specs.declared.stop.Stop.{Stop}
-use Rattle.entries.specs.declared.stop.Stop.the-variants.{Malformed, TooMany, Repeated}
-use Rattle.entries.specs.Entries as entries
-use Rattle.entries.specs.Entries.{all-encoded, well-formed, Front, Begins, Means, Means-only}
+use Rattle.entries.specs.declared.stop.Stop.the-variants.{Malformed}
+use Rattle.entries.specs.Entries.{all-encoded, well-formed, Front, Begins}
 use Rattle.entries.specs.Seen.{refusal}
-use Rattle.entries.proofs.Seeing.{refused-since, passed-since}
-use Rattle.entries.proofs.Unique.{parts, front-more, means-only}
+use Rattle.entries.proofs.Steps.{stops-malformed, stops-refused, goes-on}
+use Rattle.entries.proofs.Unique.{means-only}
 use Rattle.bundle.specs.Format.{Entry, format}
 use Rattle.bundle.specs.Bundles.{malformed-at, Out-of-memory, Refused, too-long, stops, Reads, Takes-first, Inverts-writing}
 use Rattle.bundle.proofs.Lawful.{lawful}
 
+-- what a refused name is refused for
+some-stop : (o : Option Stop) → isSome o ≡ true → (why : Stop) × (o ≡ Some why)
+some-stop None e = absurd (false≢true e)
+some-stop (Some why) e = (why, refl)
+
+no-stop : (o : Option Stop) → isSome o ≡ false → o ≡ None
+no-stop None e = refl
+no-stop (Some why) e = absurd (true≢false e)
+
 module _ (s : List ℕ) (es : List Entry) (rest : List ℕ) (f : Front format s es rest) where
-  pub read-so-far : length (all-encoded format es) ≡ length s - length rest
-  read-so-far = let n = ap length (f .all) in omega (arith, length-append (all-encoded format es) rest)
-
   module _ (short : length s ≤ 65536) (d : Denial) (is : d ≡ malformed-at (length s - length rest)) where
-    refused-here : (why : Stop) → entries.Refused format es rest why → Refused s d
-    refused-here why r = subst (Refused s) (sym is) (stops why short (means-only format lawful s (Err (why, length s - length rest)) (record { before = es; rest = rest; front = f; refused = r; is-byte = read-so-far })))
-
     pub no-entry : ¬ (rest ≡ []) → ¬ Begins format rest → Refused s d
-    no-entry n b = refused-here Malformed (n, b)
+    no-entry n b = subst (Refused s) (sym is) (stops Malformed short (stops-malformed format lawful s es rest f n b))
 
     pub no-room : (x : Entry) (more : List ℕ) (names : List Name) → Takes-first rest (Some (x, more)) → names ≡ map (λ e. e .key) es → isSome (refusal names (x .key)) ≡ true → Refused s d
-    no-room x more names t e r = by (refused-since names (x .key) r)
-      where
-        front : Begins format rest
-        front = record { entry = x; rest = more; is = t .0; well = t .1 }
-
-        size : length names ≡ length es
-        size = ap length e ∙ length-map es (λ e. e .key)
-
-        by : (32 ≤ length names) ⊎ ((length names < 32) × (among names (x .key) ≡ true)) → Refused s d
-        by (inl l) = refused-here TooMany (let k = parts format es (f .well) .few in omega (arith, size), front)
-        by (inr l) = refused-here Repeated (let k = l .0 in omega (arith, size), (front, ap (λ ns. among ns (x .key)) (sym e) ∙ l .1))
+    no-room x more names t e r =
+        let (why, w) = some-stop (refusal names (x .key)) r in
+        subst (Refused s) (sym is) (stops why short (stops-refused format lawful s es rest f (record { entry = x; rest = more; is = t .0; well = t .1 }) names e why w))
 
   pub one-more : (x : Entry) (more : List ℕ) (names : List Name) → Takes-first rest (Some (x, more)) → names ≡ map (λ e. e .key) es → isSome (refusal names (x .key)) ≡ false → Front format s (es ++ (x ∷ [])) more
-  one-more x more names t e r =
-      let p = passed-since names (x .key) r in
-      let l = p .0 in
-      let size : length names ≡ length es = ap length e ∙ length-map es (λ e. e .key) in
-      front-more format s es rest f x more (t .0) (t .1) (omega arith) (ap (λ ns. among ns (x .key)) (sym e) ∙ p .1)
+  one-more x more names t e r = goes-on format lawful s es rest f (record { entry = x; rest = more; is = t .0; well = t .1 }) names e (no-stop (refusal names (x .key)) r)
 
   pub all-read : length rest ≡ 0 → length s ≤ 65536 → Reads s (Ok es)
   all-read n short = (short, means-only format lawful s (Ok es) (subst (Front format s es) (none rest n) f))

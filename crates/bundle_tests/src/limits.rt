@@ -1,14 +1,15 @@
 // Both sides of each limit, and that writing and reading agree.
-use crate::made::numbered;
-use crate::made::one_text;
 use crate::made::is_denied;
 use crate::made::is_read;
+use crate::made::numbered;
+use crate::made::one_text;
 use crate::made::text;
 use bundle::PayloadKind;
 use names::same_name;
 use std::test::*;
 
 const KEY_63: &[u8] = b"kkkkkkkkkkkkkkkkkkkkkkkkkkkkkkkkkkkkkkkkkkkkkkkkkkkkkkkkkkkkkkk";
+
 const KEY_64: &[u8] = b"kkkkkkkkkkkkkkkkkkkkkkkkkkkkkkkkkkkkkkkkkkkkkkkkkkkkkkkkkkkkkkkk";
 
 #[test]

@@ -1,3 +1,4 @@
 pub mod Unique
 pub mod Seeing
 pub mod Fronts
+pub mod Steps

@@ -23,7 +23,7 @@ use Rattle.list.specs.Modules.{with-entry}
 use Rattle.list.specs.Reading.{Reads-entry, Is-module}
 use Rattle.list.proofs.Entries.{lawful}
 use Rattle.list.proofs.Modules.{module-push, module-entries, module-well-formed}
-use Rattle.list.proofs.Steps.{byte-is, rest-fits, stops-malformed, stops-refused, goes-on}
+use Rattle.entries.proofs.Steps.{byte-is, rest-fits, stops-malformed, stops-refused, goes-on}
 
 -- the entries in front of the rest, which the module and the names seen are made of
 pub record So-far (s : List ℕ) (m : SyntheticModule) (names : List Name) (rest : List ℕ) : Type 0 where

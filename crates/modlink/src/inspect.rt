@@ -32,7 +32,13 @@ fn show_list(rt: &LibcRuntime, place: usize, payload: &[u8]) -> Result<(), AnyEr
 }
 
 fn show_module(rt: &LibcRuntime, place: usize, entry: &Entry<'_>) -> Result<(), AnyError> {
-    println!(rt, "{place} {} {} {} bytes", Shown(entry.key), kind_name(entry.kind), entry.payload.len())?;
+    println!(
+        rt,
+        "{place} {} {} {} bytes",
+        Shown(entry.key),
+        kind_name(entry.kind),
+        entry.payload.len()
+    )?;
     match entry.kind {
         PayloadKind::Text => Ok(()),
         PayloadKind::List => show_list(rt, place, entry.payload),
@@ -43,7 +49,12 @@ fn show_module(rt: &LibcRuntime, place: usize, entry: &Entry<'_>) -> Result<(), 
 pub fn show_bundle(rt: &LibcRuntime, bytes: &[u8]) -> Result<(), AnyError> {
     match bundle::read(rt.alloc(), bytes) {
         Ok(entries) => {
-            println!(rt, "bundle of {} bytes, {} modules", bytes.len(), entries.len())?;
+            println!(
+                rt,
+                "bundle of {} bytes, {} modules",
+                bytes.len(),
+                entries.len()
+            )?;
             for (place, entry) in entries.iter().enumerate() {
                 show_module(rt, place, entry)?;
             }

@@ -28,7 +28,10 @@ fn perform(rt: &LibcRuntime, command: &str, rest: &[String]) -> Result<(), AnyEr
         }
         "inspect" => inspect::inspect_file(rt, rest),
         "pack" => pack::pack_files(rt, rest),
-        _ => Err(format!(rt.alloc(), "no command `{command}`; `modlink help` lists them")?.into()),
+        _ => Err(format!(
+            rt.alloc(),
+            "no command `{command}`; `modlink help` lists them"
+        )?.into()),
     }
 }
 

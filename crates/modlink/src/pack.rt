@@ -6,7 +6,8 @@ use record::DenialDisplay;
 use std::error::AnyError;
 use std::fs;
 
-const USAGE: &str = "pack takes a file to write and then, for each module, its kind, key and file: modlink pack OUT [text|list KEY FILE]..";
+const USAGE: &str =
+    "pack takes a file to write and then, for each module, its kind, key and file: modlink pack OUT [text|list KEY FILE]..";
 
 // A module to pack: its kind, the number of its key among the arguments, and its payload.
 #[derive(Drop)]
@@ -35,7 +36,11 @@ fn gather(rt: &LibcRuntime, mut args: &[String]) -> Result<Vec<Packed>, AnyError
         all.push(Packed { kind, key, payload })?;
         args = rest;
     }
-    if args.is_empty() { Ok(all) } else { Err(USAGE.into()) }
+    if args.is_empty() {
+        Ok(all)
+    } else {
+        Err(USAGE.into())
+    }
 }
 
 fn write_bundle(rt: &LibcRuntime, out: &str, all: &[Packed]) -> Result<(), AnyError> {
@@ -52,7 +57,12 @@ fn write_bundle(rt: &LibcRuntime, out: &str, all: &[Packed]) -> Result<(), AnyEr
             if let Err(e) = fs::write(rt, out, bytes.as_slice()) {
                 return Err(format!(rt.alloc(), "cannot write {out}: {e}")?.into());
             }
-            println!(rt, "{out}: {} bytes, {} modules", bytes.len(), entries.len())?;
+            println!(
+                rt,
+                "{out}: {} bytes, {} modules",
+                bytes.len(),
+                entries.len()
+            )?;
             Ok(())
         }
         Err(denial) => Err(format!(rt.alloc(), "{denial}")?.into()),

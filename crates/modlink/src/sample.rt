@@ -6,9 +6,11 @@ use record::DenialDisplay;
 use std::error::AnyError;
 
 // crate = 12.5, pallet = 25, sack = undefined
-const TARES: &[u8] = b"\x45crate\x40\x29\x00\x00\x00\x00\x00\x00\x46pallet\x40\x39\x00\x00\x00\x00\x00\x00\x04sack";
+const TARES: &[u8] =
+    b"\x45crate\x40\x29\x00\x00\x00\x00\x00\x00\x46pallet\x40\x39\x00\x00\x00\x00\x00\x00\x04sack";
 
-const RULES: &[u8] = b"import {crate, pallet} from \"./tares\";\nexport let load = crate + crate + pallet;\n";
+const RULES: &[u8] =
+    b"import {crate, pallet} from \"./tares\";\nexport let load = crate + crate + pallet;\n";
 
 // A list whose second entry repeats a name.
 const SPOILED: &[u8] = b"\x01a\x01a";

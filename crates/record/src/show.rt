@@ -42,7 +42,9 @@ pub impl fmt::Display for Cause as CauseDisplay {
             Cause::OverLimit => f.write_str("over a limit"),
             Cause::MalformedList => f.write_str("malformed list"),
             Cause::NoBinding => f.write_str("no binding for the import or re-export here"),
-            Cause::SeveralBindings => f.write_str("several bindings for the import or re-export here"),
+            Cause::SeveralBindings => f.write_str(
+                "several bindings for the import or re-export here",
+            ),
             Cause::NoModule => f.write_str("no module is loaded here"),
             Cause::NotLinked => f.write_str("not linked"),
             Cause::BodyFault(cause) => write!(f, "{cause}"),

@@ -8,11 +8,23 @@ use std::test::*;
 
 #[test]
 fn bindings_join(rt: LibcRuntime) -> Result<(), Fail> {
-    check(matches!(join(Outcome::One((1, 2)), Outcome::One((1, 2))), Outcome::One((1, 2))))?;
-    check(matches!(join(Outcome::One((1, 2)), Outcome::One((2, 1))), Outcome::Several))?;
-    check(matches!(join(Outcome::Nothing, Outcome::One((3, 4))), Outcome::One((3, 4))))?;
+    check(matches!(
+        join(Outcome::One((1, 2)), Outcome::One((1, 2))),
+        Outcome::One((1, 2))
+    ))?;
+    check(matches!(
+        join(Outcome::One((1, 2)), Outcome::One((2, 1))),
+        Outcome::Several
+    ))?;
+    check(matches!(
+        join(Outcome::Nothing, Outcome::One((3, 4))),
+        Outcome::One((3, 4))
+    ))?;
     let mut all = Vec::new(rt.alloc());
-    check(matches!(join_all::<BindingSame>(Vec::new(rt.alloc())), Outcome::Nothing))?;
+    check(matches!(
+        join_all::<BindingSame>(Vec::new(rt.alloc())),
+        Outcome::Nothing
+    ))?;
     all.push(Outcome::One((1, 2)))?;
     all.push(Outcome::Nothing)?;
     all.push(Outcome::One((1, 2)))?;
