@@ -1,4 +1,5 @@
 // What a bundle holds, line by line.
+use crate::kind::word_of;
 use bundle::Entry;
 use bundle::PayloadKind;
 use names::Shown;
@@ -7,13 +8,6 @@ use record::DenialDisplay;
 use record::ValueDisplay;
 use std::error::AnyError;
 use std::fs;
-
-fn kind_name(kind: PayloadKind) -> &'static str {
-    match kind {
-        PayloadKind::Text => "text",
-        PayloadKind::List => "list",
-    }
-}
 
 // The names and values of a list, or its denial.
 fn show_list(rt: &LibcRuntime, place: usize, payload: &[u8]) -> Result<(), AnyError> {
@@ -36,7 +30,7 @@ fn show_module(rt: &LibcRuntime, place: usize, entry: &Entry<'_>) -> Result<(), 
         rt,
         "{place} {} {} {} bytes",
         Shown(entry.key),
-        kind_name(entry.kind),
+        word_of(entry.kind),
         entry.payload.len()
     )?;
     match entry.kind {
@@ -46,12 +40,12 @@ fn show_module(rt: &LibcRuntime, place: usize, entry: &Entry<'_>) -> Result<(), 
 }
 
 // Shows a bundle, or the denial that reading it gives.
-pub fn show_bundle(rt: &LibcRuntime, bytes: &[u8]) -> Result<(), AnyError> {
+pub(crate) fn show_bundle(rt: &LibcRuntime, bytes: &[u8]) -> Result<(), AnyError> {
     match bundle::read(rt.alloc(), bytes) {
         Ok(entries) => {
             println!(
                 rt,
-                "bundle of {} bytes, {} modules",
+                "bundle of {} bytes, modules: {}",
                 bytes.len(),
                 entries.len()
             )?;
@@ -64,14 +58,14 @@ pub fn show_bundle(rt: &LibcRuntime, bytes: &[u8]) -> Result<(), AnyError> {
     Ok(())
 }
 
-pub fn read_file(rt: &LibcRuntime, path: &str) -> Result<Vec<u8>, AnyError> {
+pub(crate) fn read_file(rt: &LibcRuntime, path: &str) -> Result<Vec<u8>, AnyError> {
     match fs::read(rt, path) {
         Ok(bytes) => Ok(bytes),
         Err(e) => Err(format!(rt.alloc(), "cannot read {path}: {e}")?.into()),
     }
 }
 
-pub fn inspect_file(rt: &LibcRuntime, args: &[String]) -> Result<(), AnyError> {
+pub(crate) fn inspect_file(rt: &LibcRuntime, args: &[String]) -> Result<(), AnyError> {
     let [path] = args else {
         return Err("inspect takes one bundle: modlink inspect BUNDLE".into());
     };

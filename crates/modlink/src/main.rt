@@ -1,5 +1,6 @@
 // modlink: packs depot modules into bundles, and shows what a bundle holds.
 mod inspect;
+mod kind;
 mod pack;
 mod sample;
 

@@ -1,5 +1,6 @@
 // Bundles from files.
 use crate::inspect::read_file;
+use crate::kind::kind_named;
 use bundle::Entry;
 use bundle::PayloadKind;
 use record::DenialDisplay;
@@ -9,7 +10,7 @@ use std::fs;
 const USAGE: &str =
     "pack takes a file to write and then, for each module, its kind, key and file: modlink pack OUT [text|list KEY FILE]..";
 
-// A module to pack: its kind, the number of its key among the arguments, and its payload.
+// A module to pack.
 #[derive(Drop)]
 struct Packed {
     kind: PayloadKind,
@@ -17,18 +18,11 @@ struct Packed {
     payload: Vec<u8>,
 }
 
-fn kind_of(word: &str) -> Option<PayloadKind> {
-    match word {
-        "text" => Some(PayloadKind::Text),
-        "list" => Some(PayloadKind::List),
-        _ => None,
-    }
-}
-
+// The modules that the arguments name, three words each, with their files' contents.
 fn gather(rt: &LibcRuntime, mut args: &[String]) -> Result<Vec<Packed>, AnyError> {
     let mut all = Vec::new(rt.alloc());
     while let [kind, key, file, rest @ ..] = args {
-        let Some(kind) = kind_of(kind.as_str()) else {
+        let Some(kind) = kind_named(kind.as_str()) else {
             return Err(USAGE.into());
         };
         let payload = read_file(rt, file.as_str())?;
@@ -59,7 +53,7 @@ fn write_bundle(rt: &LibcRuntime, out: &str, all: &[Packed]) -> Result<(), AnyEr
             }
             println!(
                 rt,
-                "{out}: {} bytes, {} modules",
+                "{out}: {} bytes, modules: {}",
                 bytes.len(),
                 entries.len()
             )?;
@@ -69,7 +63,7 @@ fn write_bundle(rt: &LibcRuntime, out: &str, all: &[Packed]) -> Result<(), AnyEr
     }
 }
 
-pub fn pack_files(rt: &LibcRuntime, args: &[String]) -> Result<(), AnyError> {
+pub(crate) fn pack_files(rt: &LibcRuntime, args: &[String]) -> Result<(), AnyError> {
     let [out, rest @ ..] = args else {
         return Err(USAGE.into());
     };

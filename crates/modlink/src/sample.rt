@@ -15,7 +15,7 @@ const RULES: &[u8] =
 // A list whose second entry repeats a name.
 const SPOILED: &[u8] = b"\x01a\x01a";
 
-pub fn show_sample(rt: &LibcRuntime) -> Result<(), AnyError> {
+pub(crate) fn show_sample(rt: &LibcRuntime) -> Result<(), AnyError> {
     let entries = [
         Entry {
             kind: PayloadKind::List,
