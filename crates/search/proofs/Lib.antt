@@ -4,3 +4,6 @@ pub mod Entering
 pub mod Scanning
 pub mod Leaving
 pub mod Visiting
+pub mod Lawful
+pub mod Preserving
+pub mod Actions
