@@ -7,3 +7,4 @@ pub mod Visiting
 pub mod Lawful
 pub mod Preserving
 pub mod Actions
+pub mod Functions
