@@ -8,3 +8,8 @@ pub mod Lawful
 pub mod Preserving
 pub mod Actions
 pub mod Functions
+pub mod Shown
+pub mod Popping
+pub mod Counting
+pub mod Stacking
+pub mod Searching
