@@ -102,16 +102,18 @@ module _ {arrows : ℕ → List ℕ} {S F : Type 0} {D : Deeds S F} where
   pub acted : {s : Search} {a : S} {v : ℕ} {t : Search} {b : S} → Visits arrows D s a v t b → Ready arrows s v → (nodes : List ℕ) × Acted D s a t b nodes
   acted {s} {t = t} V R =
       let A = doing V R in
-      let K = visits V R .kept in
-      (A .nodes, record {
-        chain = A .chain;
-        once = A .once;
-        new = λ x. ((λ m. (A .were-new x m, A .are-met x m)), (λ p. A .all x (p .0) (p .1)));
-        untouched = λ x m. elim (fresh? (s .mark x)) [
-          | yes f ↦ elim (fresh? (t .mark x)) [ yes g ↦ g ∙ sym f | no n ↦ absurd (m (A .all x f n)) ]
-          | no n ↦ K .marks x n
-        ];
-      })
+      let K = visits V R .kept in (
+        A .nodes,
+        record {
+          chain = A .chain;
+          once = A .once;
+          new = λ x. ((λ m. (A .were-new x m, A .are-met x m)), (λ p. A .all x (p .0) (p .1)));
+          untouched = λ x m. elim (fresh? (s .mark x)) [
+            | yes f ↦ elim (fresh? (t .mark x)) [ yes g ↦ g ∙ sym f | no n ↦ absurd (m (A .all x f n)) ]
+            | no n ↦ K .marks x n
+          ];
+        },
+      )
 
 -- the actions before a fault, where a new node that did not act is open
 pub record Doing-before {S F : Type 0} (D : Deeds S F) (s : Search) (a : S) (t : Search) (b : S) (n : ℕ) (e : F) : Type 0 where

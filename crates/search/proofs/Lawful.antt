@@ -72,14 +72,15 @@ module _ {arrows : ℕ → List ℕ} where
   }
 
   pub pops-one-cycle : {s : Search} {v i : ℕ} {t : Search} → Ready arrows s v → Scanning arrows s v i t → item (arrows v) i ≡ None → t .low v ≡ t .index v → Popped-are-one-cycle arrows t v
-  pops-one-cycle {s} {v} {i} {t} R C e r x =
-      ( (λ m. let h = batch-new R C e r x m in (C .from x (h .0) (open-not-fresh (h .1)), C .back x (h .1)))
-      , (λ p. elim (after R C e r x) [
-          | inl h ↦ new-batch R C e r x (h .0) (h .1)
-          | inr h ↦
-              let d : close t v .mark x ≡ Closed = finished-along (close t v) (close-settled R C e r) (p .0) closed in
-              absurd (closed-not-open (finished-along t (C .sound .settled) (p .1) (sym (h .1) ∙ d)) (C .is-open))
-        ]) )
+  pops-one-cycle {s} {v} {i} {t} R C e r x = (
+    (λ m. let h = batch-new R C e r x m in (C .from x (h .0) (open-not-fresh (h .1)), C .back x (h .1))),
+    (λ p. elim (after R C e r x) [
+      | inl h ↦ new-batch R C e r x (h .0) (h .1)
+      | inr h ↦
+          let d : close t v .mark x ≡ Closed = finished-along (close t v) (close-settled R C e r) (p .0) closed in
+          absurd (closed-not-open (finished-along t (C .sound .settled) (p .1) (sym (h .1) ∙ d)) (C .is-open))
+    ]),
+  )
     where
       closed : close t v .mark v ≡ Closed
       closed = elim (after R C e r v) [ inl k ↦ k .2 | inr k ↦ absurd (k .0 (C .was-fresh) (C .is-open)) ]

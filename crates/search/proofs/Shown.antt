@@ -5,13 +5,13 @@ use Prim.Native.Nat.{ℕ, zero, suc, _-_, _≤_, _<_, min}
 use native.Mathlib.Omega.{arith}
 use native.Mathlib.Numerals.{add-one}
 use native.Mathlib.Decide.{ℕ-discrete}
-use lib.ListN.{length, getD, set}
+use lib.ListN.{length, getD, set, replicate}
 use lib.Seq.{getD-set-same, getD-set-other}
 use Rattle.search.specs.declared.mark.Mark.{Mark}
 use Rattle.search.specs.declared.mark.Mark.the-variants.{Fresh, Open, Closed, Spoilt}
 use Rattle.search.specs.declared.node.Node.{Node}
 use Rattle.search.specs.declared.stack.Stack.{Stack}
-use Rattle.search.specs.Search.{Search, put, enter, heed, lower}
+use Rattle.search.specs.Search.{Search, begin, put, enter, heed, lower}
 use Rattle.search.specs.Stacks.{zeroth, downward, shown, pushed, lowered, popped, newest}
 use Rattle.search.proofs.Basics.{put-at, put-else}
 
@@ -71,3 +71,12 @@ shed s x r = record { mark = put (s .mark) x Closed; index = s .index; low = s .
 
 pub shown-shed : (f g : ℕ → Mark) (m : Stack) → ((x : ℕ) → g x ≡ put f (newest m .value) Closed x) → shown g (popped m) ≡ shed (shown f m) (newest m .value) (downward (m .nodes) (m .top - 1))
 shown-shed f g m M = search-path (shown g (popped m)) (shed (shown f m) (newest m .value) (downward (m .nodes) (m .top - 1))) M (λ x. refl) (λ x. refl) refl refl
+
+blank-at : (n x : ℕ) → _≡_ {A = ℕ} (getD (replicate n 0) x 0) 0
+blank-at zero x = refl
+blank-at (suc n) zero = refl
+blank-at (suc n) (suc x) = blank-at n x
+
+-- a blank stack shows a search that begins
+pub shown-blank : (f : ℕ → Mark) (m : Stack) → m .index ≡ replicate 32 0 → m .low ≡ replicate 32 0 → m .top ≡ 0 → m .next ≡ 0 → shown f m ≡ begin f
+shown-blank f m p q r k = search-path (shown f m) (begin f) (λ x. refl) (λ x. ap (λ l. getD l x 0) p ∙ blank-at 32 x) (λ x. ap (λ l. getD l x 0) q ∙ blank-at 32 x) (ap (downward (m .nodes)) r) k

@@ -113,3 +113,11 @@ module _ (arrows : ℕ → List ℕ) {S F : Type 0} (D : Deeds S F) (s : Search)
   -- each set of nodes popped together is exactly one cycle
   abbrev pub Nodes-popped-together-are-one-cycle : Type 0
   Nodes-popped-together-are-one-cycle = At-rest arrows s → Ends arrows (closing-one-cycle arrows D) s a v t b r
+
+  -- the laws of a search from v, which began at s and a and came to t and b with the answer r
+  pub record Lawful : Type 0 where
+    pub finishes : Success-finishes-all-that-the-root-reaches
+    pub follows : Each-action-follows-its-arrows
+    pub reached : A-fault-is-reached-from-the-stack
+    pub once : Actions-are-done-once-at-new-nodes
+    pub cycles : Nodes-popped-together-are-one-cycle

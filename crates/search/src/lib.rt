@@ -4,6 +4,7 @@ ghost use mathlib.Core.List.{List·Memᴰ};
 ghost use Prim.Native.Nat.{ℕ, _<_, _≤_};
 ghost use Rattle.std.specs.Results.{Cases};
 ghost use Rattle.search.specs.Search.{begin, enter as entered, down-to, close, Finishes, Ends};
+ghost use Rattle.search.specs.Laws.{Lawful};
 ghost use Rattle.search.specs.Stacks.{shown, count, Room, Stacked};
 ghost use Rattle.search.specs.declared.mark.Mark.the-variants.{Fresh};
 
@@ -75,4 +76,15 @@ fn visit<W: Walk>(walk: &mut W, stack: &mut Stack, node: Node) -> Result<(), W::
         settle(walk, stack, node);
     }
     Ok(())
+}
+
+/// Searches all that `root` reaches: each new node once, and the nodes of a cycle are finished together. The stack is
+/// made blank first.
+pub fn search<W: Walk>(walk: &mut W, stack: &mut Stack, root: Node) -> Result<(), W::Fault>
+    ensures fixed { λ _. ⌜ fixed (now (walk .exit)) ≡ fixed (now (walk .entry)) ⌝ }
+    ensures does { λ r. ⌜ Ends (arrows (fixed (now (walk .entry)))) (deeds (fixed (now (walk .entry)))) (begin (marks (now (walk .entry)))) (state (now (walk .entry))) (root .value) (shown (marks (now (walk .exit))) (now (stack .exit))) (state (now (walk .exit))) r ⌝ }
+    ensures laws { λ r. ⌜ Lawful (arrows (fixed (now (walk .entry)))) (deeds (fixed (now (walk .entry)))) (begin (marks (now (walk .entry)))) (state (now (walk .entry))) (root .value) (shown (marks (now (walk .exit))) (now (stack .exit))) (state (now (walk .exit))) r ⌝ }
+{
+    *stack = Stack::new();
+    visit(walk, stack, root)
 }

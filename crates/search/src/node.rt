@@ -24,6 +24,13 @@ impl Node {
         }
     }
 
+    /// The node 0.
+    pub(crate) fn zero() -> Node
+        ensures { λ r. ⌜ r .value ≡ 0 ⌝ }
+    {
+        Node { value: 0 }
+    }
+
     /// The number of the node.
     pub fn number(self) -> usize
         ensures value { λ r. ⌜ r ≡ self .value ⌝ }

@@ -17,8 +17,8 @@ pub struct Stack {
 }
 
 impl Stack {
-    /// A blank stack, whose places hold `fill`.
-    pub fn new(fill: Node) -> Stack
+    /// A blank stack.
+    pub fn new() -> Stack
         ensures indices { λ r. ⌜ r .index ≡ replicate 32 0 ⌝ }
         ensures lows { λ r. ⌜ r .low ≡ replicate 32 0 ⌝ }
         ensures top { λ r. ⌜ r .top ≡ 0 ⌝ }
@@ -27,7 +27,7 @@ impl Stack {
         Stack {
             index: [0; 32],
             low: [0; 32],
-            nodes: [fill; 32],
+            nodes: [Node::zero(); 32],
             top: 0,
             next: 0,
         }

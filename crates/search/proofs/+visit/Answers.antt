@@ -41,7 +41,7 @@ pub visit-requires : need.visit-requires
 visit-requires g t c κs within =
     let T = g .W·Walk in
     let N : At-node (T .fixed (c .args .walk .now)) (shown (T .marks (c .args .walk .now)) (c .args .stack .now)) (T .state (c .args .walk .now)) (c .args .node .value) (T .fixed (c .enter .last .walk)) (shown (T .marks (c .enter .last .walk)) (c .enter .last .stack)) (T .state (c .enter .last .walk)) =
-      record { fresh = sym (c .in-Continue-meet .ensures tt .0) ∙ c .in-Fresh .is; stacked = c .pre .stacked; fixed = c .enter .ensures .fixed; state = c .enter .ensures .state; after = c .enter .ensures .after } in
+    record { fresh = sym (c .in-Continue-meet .ensures tt .0) ∙ c .in-Fresh .is; stacked = c .pre .stacked; fixed = c .enter .ensures .fixed; state = c .enter .ensures .state; after = c .enter .ensures .after } in
     let u = c .loop-next .inv .0 in
     let h : count (T .marks (c .args .walk .now)) 32 ≡ t = c .measured in
     let k = node-fewer (T .arrows) (T .deeds) N u in
@@ -52,7 +52,7 @@ pub returns-in-Break-visit : need.returns-in-Break-visit
 returns-in-Break-visit g t c =
     let T = g .W·Walk in
     let N : At-node (T .fixed (c .args .walk .now)) (shown (T .marks (c .args .walk .now)) (c .args .stack .now)) (T .state (c .args .walk .now)) (c .args .node .value) (T .fixed (c .enter .last .walk)) (shown (T .marks (c .enter .last .walk)) (c .enter .last .stack)) (T .state (c .enter .last .walk)) =
-      record { fresh = sym (c .in-Continue-meet .ensures tt .0) ∙ c .in-Fresh .is; stacked = c .pre .stacked; fixed = c .enter .ensures .fixed; state = c .enter .ensures .state; after = c .enter .ensures .after } in
+    record { fresh = sym (c .in-Continue-meet .ensures tt .0) ∙ c .in-Fresh .is; stacked = c .pre .stacked; fixed = c .enter .ensures .fixed; state = c .enter .ensures .state; after = c .enter .ensures .after } in
     let u = c .loop-next .inv .0 in
     let q = sym (c .arrow .ensures .is) ∙ ap (mapped (λ (x : Node). x .value)) (c .in-Some .is) in
     let p = err-from-errBy (c .from-residual-in-Break-visit .result) (c .from-residual-in-Break-visit .ensures .1) in
@@ -74,22 +74,22 @@ loop-next-again g t c =
     let V = c .in-Continue-visit .ensures tt .does in
     let R = c .in-Continue-visit .ensures tt .room in
     let low : shown f (c .match-look .stack) ≡ lower (shown f m) v w =
-      elim (c .match-look .came) [
-        | in-Open x ↦ ap (shown f) (x .stack-is ∙ x .lower .ensures .after) ∙ shown-lower f m v w (omega (arith, x .lower .ensures .lows, c .args .node .below)) (sym (c .look .ensures) ∙ x .in-Open .is)
-        | in-rest-look x ↦ ap (shown f) (x .stack-is) ∙ lower-none (shown f m) v w (λ o. x .in-rest-look .not-Open (c .look .ensures ∙ o))
-      ] in
+    elim (c .match-look .came) [
+      | in-Open x ↦ ap (shown f) (x .stack-is ∙ x .lower .ensures .after) ∙ shown-lower f m v w (omega (arith, x .lower .ensures .lows, c .args .node .below)) (sym (c .look .ensures) ∙ x .in-Open .is)
+      | in-rest-look x ↦ ap (shown f) (x .stack-is) ∙ lower-none (shown f m) v w (λ o. x .in-rest-look .not-Open (c .look .ensures ∙ o))
+    ] in
     let room : Room f (c .match-look .stack) =
-      elim (c .match-look .came) [
-        | in-Open x ↦ room-same f f m (c .match-look .stack) (λ y. refl) (ap (λ (z : Stack). z .top) (x .stack-is ∙ x .lower .ensures .after)) (ap (λ (z : Stack). z .next) (x .stack-is ∙ x .lower .ensures .after)) R
-        | in-rest-look x ↦ room-same f f m (c .match-look .stack) (λ y. refl) (ap (λ (z : Stack). z .top) (x .stack-is)) (ap (λ (z : Stack). z .next) (x .stack-is)) R
-      ] in
+    elim (c .match-look .came) [
+      | in-Open x ↦ room-same f f m (c .match-look .stack) (λ y. refl) (ap (λ (z : Stack). z .top) (x .stack-is ∙ x .lower .ensures .after)) (ap (λ (z : Stack). z .next) (x .stack-is ∙ x .lower .ensures .after)) R
+      | in-rest-look x ↦ room-same f f m (c .match-look .stack) (λ y. refl) (ap (λ (z : Stack). z .top) (x .stack-is)) (ap (λ (z : Stack). z .next) (x .stack-is)) R
+    ] in
     (one-further (T .arrows) (T .deeds) (c .loop-next .inv .0) (c .loop-next .inv .1) q V low, c .visit .ensures .fixed ∙ c .loop-next .inv .1, room)
 
 pub returns-in-Break-act : need.returns-in-Break-act
 returns-in-Break-act g t c =
     let T = g .W·Walk in
     let N : At-node (T .fixed (c .args .walk .now)) (shown (T .marks (c .args .walk .now)) (c .args .stack .now)) (T .state (c .args .walk .now)) (c .args .node .value) (T .fixed (c .enter .last .walk)) (shown (T .marks (c .enter .last .walk)) (c .enter .last .stack)) (T .state (c .enter .last .walk)) =
-      record { fresh = sym (c .in-Continue-meet .ensures tt .0) ∙ c .in-Fresh .is; stacked = c .pre .stacked; fixed = c .enter .ensures .fixed; state = c .enter .ensures .state; after = c .enter .ensures .after } in
+    record { fresh = sym (c .in-Continue-meet .ensures tt .0) ∙ c .in-Fresh .is; stacked = c .pre .stacked; fixed = c .enter .ensures .fixed; state = c .enter .ensures .state; after = c .enter .ensures .after } in
     let u = c .loop-next .inv .0 in
     let q = sym (c .arrow .ensures .is) ∙ ap (mapped (λ (x : Node). x .value)) (c .in-rest-arrow .is) in
     let p = err-from-errBy (c .from-residual-in-Break-act .result) (c .from-residual-in-Break-act .ensures .1) in
@@ -105,7 +105,7 @@ pub settle-requires : need.settle-requires
 settle-requires g t c κs =
     let T = g .W·Walk in
     let N : At-node (T .fixed (c .args .walk .now)) (shown (T .marks (c .args .walk .now)) (c .args .stack .now)) (T .state (c .args .walk .now)) (c .args .node .value) (T .fixed (c .enter .last .walk)) (shown (T .marks (c .enter .last .walk)) (c .enter .last .stack)) (T .state (c .enter .last .walk)) =
-      record { fresh = sym (c .in-Continue-meet .ensures tt .0) ∙ c .in-Fresh .is; stacked = c .pre .stacked; fixed = c .enter .ensures .fixed; state = c .enter .ensures .state; after = c .enter .ensures .after } in
+    record { fresh = sym (c .in-Continue-meet .ensures tt .0) ∙ c .in-Fresh .is; stacked = c .pre .stacked; fixed = c .enter .ensures .fixed; state = c .enter .ensures .state; after = c .enter .ensures .after } in
     let u = c .loop-next .inv .0 in
     let e = shown-marks (T .marks (c .act .last .self)) (T .marks (c .loop-next .walk)) (c .loop-next .stack) (c .act .ensures .marks) in
     record {
@@ -118,7 +118,7 @@ pub returns : need.returns
 returns g t c =
     let T = g .W·Walk in
     let N : At-node (T .fixed (c .args .walk .now)) (shown (T .marks (c .args .walk .now)) (c .args .stack .now)) (T .state (c .args .walk .now)) (c .args .node .value) (T .fixed (c .enter .last .walk)) (shown (T .marks (c .enter .last .walk)) (c .enter .last .stack)) (T .state (c .enter .last .walk)) =
-      record { fresh = sym (c .in-Continue-meet .ensures tt .0) ∙ c .in-Fresh .is; stacked = c .pre .stacked; fixed = c .enter .ensures .fixed; state = c .enter .ensures .state; after = c .enter .ensures .after } in
+    record { fresh = sym (c .in-Continue-meet .ensures tt .0) ∙ c .in-Fresh .is; stacked = c .pre .stacked; fixed = c .enter .ensures .fixed; state = c .enter .ensures .state; after = c .enter .ensures .after } in
     let u = c .loop-next .inv .0 in
     let q = sym (c .arrow .ensures .is) ∙ ap (mapped (λ (x : Node). x .value)) (c .in-rest-arrow .is) in
     let f = T .marks (c .loop-next .walk) in
@@ -132,13 +132,13 @@ returns g t c =
     let Done : g .W .Denot → Stack → Type 0 = λ x y. Visits (T .arrows (T .fixed (c .args .walk .now))) (T .deeds (T .fixed (c .args .walk .now))) (shown (T .marks (c .args .walk .now)) (c .args .stack .now)) (T .state (c .args .walk .now)) v (shown (T .marks x) y) (T .state x) in
     elim (c .if-is-lowest .came) [
       | then-is-lowest w ↦ record {
-          fixed = ap (T .fixed) (w .walk-is) ∙ w .settle .ensures .fixed ∙ k;
-          room = at-exit (λ x y. Room (T .marks x) y) (w .walk-is) (w .stack-is) (room-closed f1 (T .marks (w .settle .last .walk)) m (w .settle .last .stack) v (w .settle .ensures .after) R);
-          does = at-exit Done (w .walk-is) (w .stack-is) (node-pops (T .arrows) (T .deeds) N u (c .loop-next .inv .1) q e d (eqb-true (getD (m .low) v 0) (getD (m .index) v 0) (sym (c .is-lowest .ensures) ∙ w .if-is-lowest .taken)) (c .act .ensures .fixed) (w .settle .ensures .does) (w .settle .ensures .after));
-        }
+        fixed = ap (T .fixed) (w .walk-is) ∙ w .settle .ensures .fixed ∙ k;
+        room = at-exit (λ x y. Room (T .marks x) y) (w .walk-is) (w .stack-is) (room-closed f1 (T .marks (w .settle .last .walk)) m (w .settle .last .stack) v (w .settle .ensures .after) R);
+        does = at-exit Done (w .walk-is) (w .stack-is) (node-pops (T .arrows) (T .deeds) N u (c .loop-next .inv .1) q e d (eqb-true (getD (m .low) v 0) (getD (m .index) v 0) (sym (c .is-lowest .ensures) ∙ w .if-is-lowest .taken)) (c .act .ensures .fixed) (w .settle .ensures .does) (w .settle .ensures .after));
+      }
       | else-is-lowest w ↦ record {
-          fixed = ap (T .fixed) (w .walk-is) ∙ k;
-          room = at-exit (λ x y. Room (T .marks x) y) (w .walk-is) (w .stack-is) R;
-          does = at-exit Done (w .walk-is) (w .stack-is) (node-stays (T .arrows) (T .deeds) N u (c .loop-next .inv .1) q e d (eqb-false (getD (m .low) v 0) (getD (m .index) v 0) (sym (c .is-lowest .ensures) ∙ w .if-is-lowest .left)));
-        }
+        fixed = ap (T .fixed) (w .walk-is) ∙ k;
+        room = at-exit (λ x y. Room (T .marks x) y) (w .walk-is) (w .stack-is) R;
+        does = at-exit Done (w .walk-is) (w .stack-is) (node-stays (T .arrows) (T .deeds) N u (c .loop-next .inv .1) q e d (eqb-false (getD (m .low) v 0) (getD (m .index) v 0) (sym (c .is-lowest .ensures) ∙ w .if-is-lowest .left)));
+      }
     ]

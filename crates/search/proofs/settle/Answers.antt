@@ -28,10 +28,11 @@ loop-root-again g c =
     let o = pop-open f m P (c .pop-node .result) (c .pop-node .ensures .value) in
     let s0 = shown (T .marks (c .args .walk .now)) (c .args .stack .now) in
     let d = subst (λ z. T .deeds z .closes s0 (T .state (c .loop-root .walk)) (c .pop-node .result .value) (c .args .root .value) (T .state (c .close .last .self))) k (c .close .ensures .does o s0) in
-    let e : c .pop-node .last .self .top ≡ m .top - 1 = ap (λ (x : Stack). x .top) (c .pop-node .ensures .after) in
-    ( pop-more f m P (c .pop-node .result) (c .pop-node .ensures .value) (c .pop-node .last .self) (c .pop-node .ensures .after) (T .marks (c .close .last .self)) (c .close .ensures .marks o) d (λ q. c .if-number .left (c .number .ensures .value ∙ q ∙ sym (c .number-in-loop-root .ensures .value)))
-    , c .close .ensures .fixed o ∙ k
-    , omega arith )
+    let e : c .pop-node .last .self .top ≡ m .top - 1 = ap (λ (x : Stack). x .top) (c .pop-node .ensures .after) in (
+      pop-more f m P (c .pop-node .result) (c .pop-node .ensures .value) (c .pop-node .last .self) (c .pop-node .ensures .after) (T .marks (c .close .last .self)) (c .close .ensures .marks o) d (λ q. c .if-number .left (c .number .ensures .value ∙ q ∙ sym (c .number-in-loop-root .ensures .value))),
+      c .close .ensures .fixed o ∙ k,
+      omega arith,
+    )
 
 pub returns : need.returns
 returns g c =
