@@ -13,3 +13,4 @@ pub mod Popping
 pub mod Counting
 pub mod Stacking
 pub mod Searching
+pub mod Computing

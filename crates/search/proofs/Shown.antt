@@ -22,10 +22,11 @@ search-path s t p q r k n = λ i. record { mark = λ x. p x i; index = λ x. q x
 pub shown-marks : (f g : ℕ → Mark) (m : Stack) → ((x : ℕ) → f x ≡ g x) → shown f m ≡ shown g m
 shown-marks f g m p = search-path (shown f m) (shown g m) p (λ x. refl) (λ x. refl) refl refl
 
-pub set-put : (l : List ℕ) (v a : ℕ) → v < length l → (x : ℕ) → getD (set l v a) x 0 ≡ put (λ y. getD l y 0) v a x
-set-put l v a h x = elim (ℕ-discrete x v) [
-  | yes e ↦ ap (λ y. getD (set l v a) y 0) e ∙ getD-set-same l v a 0 h ∙ sym (put-at (λ y. getD l y 0) v a x e)
-  | no n ↦ getD-set-other l v x a 0 n ∙ sym (put-else (λ y. getD l y 0) v a x n)
+-- what f shows of a list, once an element is set
+pub set-put : {A B : Type 0} (f : A → B) (l : List A) (d : A) (v : ℕ) (a : A) → v < length l → (x : ℕ) → f (getD (set l v a) x d) ≡ put (λ y. f (getD l y d)) v (f a) x
+set-put f l d v a h x = elim (ℕ-discrete x v) [
+  | yes e ↦ ap (λ y. f (getD (set l v a) y d)) e ∙ ap f (getD-set-same l v a d h) ∙ sym (put-at (λ y. f (getD l y d)) v (f a) x e)
+  | no n ↦ ap f (getD-set-other l v x a d n) ∙ sym (put-else (λ y. f (getD l y d)) v (f a) x n)
 ]
 
 -- what is set above the first n is not among them
@@ -41,14 +42,14 @@ pub shown-enter : (f g : ℕ → Mark) (m : Stack) (v : Node) → ((x : ℕ) →
 shown-enter f g m v M a b c d =
     search-path (shown g (pushed m v)) (enter (shown f m) (v .value))
     M
-    (set-put (m .index) (v .value) (m .next) (omega (arith, v .below)))
-    (set-put (m .low) (v .value) (m .next) (omega (arith, v .below)))
+    (set-put (λ z. z) (m .index) 0 (v .value) (m .next) (omega (arith, v .below)))
+    (set-put (λ z. z) (m .low) 0 (v .value) (m .next) (omega (arith, v .below)))
     (ap (downward (set (m .nodes) (m .top) v)) (add-one (m .top)) ∙ (let p = getD-set-same (m .nodes) (m .top) v zeroth (omega arith) in let q = downward-set (m .nodes) (m .top) v (m .top) (omega arith) in cc))
     refl
 
 pub shown-lower : (f : ℕ → Mark) (m : Stack) (v w : ℕ) → v < length (m .low) → f w ≡ Open → shown f (lowered m v w) ≡ lower (shown f m) v w
 unfolding heed
-shown-lower f m v w h o = search-path (shown f (lowered m v w)) (lower (shown f m) v w) (λ x. refl) (λ x. refl) (rw o (set-put (m .low) v (min (getD (m .low) v 0) (getD (m .low) w 0)) h)) refl refl
+shown-lower f m v w h o = search-path (shown f (lowered m v w)) (lower (shown f m) v w) (λ x. refl) (λ x. refl) (rw o (set-put (λ z. z) (m .low) 0 v (min (getD (m .low) v 0) (getD (m .low) w 0)) h)) refl refl
 
 -- an arrow to a node that is not open lowers nothing
 pub lower-none : (s : Search) (v w : ℕ) → ¬ (s .mark w ≡ Open) → s ≡ lower s v w

@@ -2,13 +2,15 @@
 use mathlib.Core.Path.{_≡_}
 use mathlib.Core.Bool.{Bool, true, false}
 use mathlib.Core.List.{List, [], _∷_}
-use Prim.Native.Nat.{ℕ, zero, suc}
+use Prim.Native.Nat.{ℕ, zero, suc, _≤_}
 use lib.Dec.{eqb}
 use Rattle.std.specs.declared.option.Option.{Option}
 use Rattle.std.specs.declared.option.Option.the-variants.{Some, None}
+use Rattle.std.specs.declared.result.Result.{Result}
+use Rattle.std.specs.declared.result.Result.the-variants.{Ok, Err}
 use Rattle.search.specs.declared.mark.Mark.{Mark}
 use Rattle.search.specs.declared.mark.Mark.the-variants.{Fresh, Open, Closed, Spoilt}
-use Rattle.search.specs.Search.{Search, begin, down-to, enter, lower, close, Deeds, Visits, Faults}
+use Rattle.search.specs.Search.{Search, down-to, enter, lower, close, Deeds, Visits, Faults}
 
 -- what a search does to a state, as functions: the action with the fault that it ends in, if any; what finishing a node changes; the fault that a spoilt node carries
 pub record Moves (S F : Type 0) : Type 0 where
@@ -79,3 +81,19 @@ Says arrows P s a v starved = Unit {0}
 -- each run is a search
 abbrev pub Runs-are-searches : Type 0 → Type 0 → Type 0
 Runs-are-searches S F = (arrows : ℕ → List ℕ) (P : Moves S F) (n : ℕ) (s : Search) (a : S) (v : ℕ) → Says arrows P s a v (run arrows P n s a v)
+
+-- where each deed of D is what the functions say
+pub record Computed-by {S F : Type 0} (D : Deeds S F) (P : Moves S F) : Type 0 where
+  pub acting : (s : Search) (a : S) (v : ℕ) (b : S) → D .acts s a v b → P .acted a v ≡ (b, None)
+  pub failing : (s : Search) (a : S) (v : ℕ) (b : S) (e : F) → D .fails s a v b e → P .acted a v ≡ (b, Some e)
+  pub holding : (s : Search) (a : S) (v : ℕ) (e : F) → D .holds s a v e → P .held a v ≡ e
+  pub closing : (s : Search) (a : S) (x v : ℕ) (b : S) → D .closes s a x v b → P .shut a x v ≡ b
+
+-- each run from s and a at v that is deep enough comes to t, b and the answer r
+abbrev pub Is-computed : (ℕ → List ℕ) → {S F : Type 0} → Moves S F → Search → S → ℕ → Search → S → Result (Unit {0}) F → Type 0
+Is-computed arrows P s a v t b (Ok x) = (n : ℕ) × ((m : ℕ) → n ≤ m → run arrows P m s a v ≡ finished t b)
+Is-computed arrows P s a v t b (Err e) = (x : ℕ) × (n : ℕ) × ((m : ℕ) → n ≤ m → run arrows P m s a v ≡ faulted t b x e)
+
+-- where the deeds D of a search are functions, the search comes to what each deep enough run of them computes
+abbrev pub Runs-compute-it : (ℕ → List ℕ) → {S F : Type 0} → Deeds S F → Search → S → ℕ → Search → S → Result (Unit {0}) F → Type 0
+Runs-compute-it arrows {S} {F} D s a v t b r = (P : Moves S F) → Computed-by D P → Is-computed arrows P s a v t b r

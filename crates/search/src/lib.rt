@@ -3,8 +3,9 @@ ghost use mathlib.Core.Path.{_≡_};
 ghost use mathlib.Core.List.{List·Memᴰ};
 ghost use Prim.Native.Nat.{ℕ, _<_, _≤_};
 ghost use Rattle.std.specs.Results.{Cases};
-ghost use Rattle.search.specs.Search.{begin, enter as entered, down-to, close, Finishes, Ends};
+ghost use Rattle.search.specs.Search.{begin, enter as entered, lower, down-to, close, Finishes, Ends};
 ghost use Rattle.search.specs.Laws.{Lawful};
+ghost use Rattle.search.specs.Running.{Runs-are-searches, Runs-compute-it};
 ghost use Rattle.search.specs.Stacks.{shown, count, Room, Stacked};
 ghost use Rattle.search.specs.declared.mark.Mark.the-variants.{Fresh};
 
@@ -50,6 +51,17 @@ fn enter<W: Walk>(walk: &mut W, stack: &mut Stack, node: Node)
     stack.push(node);
 }
 
+/// The low mark of `node` heeds that of `next`, if that is on the stack.
+fn heed<W: Walk>(walk: &W, stack: &mut Stack, node: Node, next: Node)
+    ensures after { λ _. ⌜ shown (marks (now (walk .entry))) (now (stack .exit)) ≡ lower (shown (marks (now (walk .entry))) (now (stack .entry))) (node .value) (next .value) ⌝ }
+    ensures top { λ _. ⌜ now (stack .exit) .top ≡ now (stack .entry) .top ⌝ }
+    ensures next { λ _. ⌜ now (stack .exit) .next ≡ now (stack .entry) .next ⌝ }
+{
+    if let Mark::Open = walk.look(next) {
+        stack.lower(node, next);
+    }
+}
+
 /// Searches a node: what it reaches first, and then its action.
 fn visit<W: Walk>(walk: &mut W, stack: &mut Stack, node: Node) -> Result<(), W::Fault>
     requires room { ⌜ Room (marks (now walk)) (now stack) ⌝ }
@@ -66,9 +78,7 @@ fn visit<W: Walk>(walk: &mut W, stack: &mut Stack, node: Node) -> Result<(), W::
     let mut i = 0;
     while let Some(next) = walk.arrow(node, i) {
         visit(walk, stack, next)?;
-        if let Mark::Open = walk.look(next) {
-            stack.lower(node, next);
-        }
+        heed(walk, stack, node, next);
         i += 1;
     }
     walk.act(node)?;
@@ -84,7 +94,13 @@ pub fn search<W: Walk>(walk: &mut W, stack: &mut Stack, root: Node) -> Result<()
     ensures fixed { λ _. ⌜ fixed (now (walk .exit)) ≡ fixed (now (walk .entry)) ⌝ }
     ensures does { λ r. ⌜ Ends (arrows (fixed (now (walk .entry)))) (deeds (fixed (now (walk .entry)))) (begin (marks (now (walk .entry)))) (state (now (walk .entry))) (root .value) (shown (marks (now (walk .exit))) (now (stack .exit))) (state (now (walk .exit))) r ⌝ }
     ensures laws { λ r. ⌜ Lawful (arrows (fixed (now (walk .entry)))) (deeds (fixed (now (walk .entry)))) (begin (marks (now (walk .entry)))) (state (now (walk .entry))) (root .value) (shown (marks (now (walk .exit))) (now (stack .exit))) (state (now (walk .exit))) r ⌝ }
+    ensures computes { λ r. ⌜ Runs-compute-it (arrows (fixed (now (walk .entry)))) (deeds (fixed (now (walk .entry)))) (begin (marks (now (walk .entry)))) (state (now (walk .entry))) (root .value) (shown (marks (now (walk .exit))) (now (stack .exit))) (state (now (walk .exit))) r ⌝ }
 {
     *stack = Stack::new();
     visit(walk, stack, root)
 }
+
+/// Each run of the search as a function is a search.
+pub fn runs_are_searches<W: Walk>()
+    ensures { λ _. ⌜ Runs-are-searches State W·Fault ⌝ }
+{}

@@ -6,13 +6,11 @@ ghost use lib.ListN.{getD, replicate};
 ghost use Rattle.search.specs.Search.{put};
 ghost use Rattle.search_tests.specs.Walks.{cycles, counting, marking};
 ghost use Rattle.search_tests.specs.declared.counting.Stage.the-variants.{New};
-
+use crate::graph::arrow;
 use search::Mark;
 use search::Node;
 use search::Walk;
 use std::convert::Infallible;
-
-use crate::graph::arrow;
 
 /// How far a count has come with a node.
 #[repr(u8)]

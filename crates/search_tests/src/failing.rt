@@ -5,14 +5,12 @@ ghost use denote.Ref.{now, name};
 ghost use lib.ListN.{getD};
 ghost use Rattle.search.specs.declared.mark.Mark.the-variants.{Fresh};
 ghost use Rattle.search_tests.specs.Walks.{cycles, failing};
-
-use search::Mark;
-use search::Node;
-use search::Walk;
-
 use crate::graph::arrow;
 use crate::graph::look;
 use crate::graph::mark;
+use search::Mark;
+use search::Node;
+use search::Walk;
 
 /// The node whose action failed.
 #[derive(Clone, Copy)]

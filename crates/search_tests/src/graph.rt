@@ -10,7 +10,6 @@ ghost use Rattle.search.specs.declared.node.Node.{Node};
 ghost use Rattle.search.specs.Graph.{item};
 ghost use Rattle.search.specs.Search.{put};
 ghost use Rattle.search_tests.specs.Walks.{first-arrow, second-arrow, cycles};
-
 use search::Mark;
 use search::Node;
 

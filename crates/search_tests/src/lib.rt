@@ -12,17 +12,16 @@ pub use failing::FailingWalk;
 
 #[cfg(test)]
 mod tests {
-    use search::Mark;
-    use search::Node;
-    use search::Stack;
-    use search::search;
-    use std::test::*;
-
     use crate::Counting;
     use crate::CountingWalk;
     use crate::Failing;
     use crate::FailingWalk;
     use crate::Stage;
+    use search::Mark;
+    use search::Node;
+    use search::Stack;
+    use search::search;
+    use std::test::*;
 
     #[test]
     fn each_node_is_counted_once() -> Result<(), Fail> {

@@ -9,13 +9,13 @@ use Rattle.std.specs.Options.{mapped}
 use Rattle.search.specs.declared.node.Node.{Node}
 use Rattle.search.specs.declared.stack.Stack.{Stack}
 use Rattle.search.specs.declared.mark.Mark.the-variants.{Fresh, Open, Closed, Spoilt}
-use Rattle.search.specs.Search.{Search, start, hands-on, lower, Visits}
+use Rattle.search.specs.Search.{Search, start, hands-on, Visits}
 use Rattle.search.specs.Stacks.{shown, count, Room, Stacked}
 use Rattle.search.proofs.Searching.{At-node, node-stacked, node-within, node-fewer, node-inside, node-fails, node-stays, node-pops, one-further, passes, at-exit}
-use Rattle.search.proofs.Shown.{shown-marks, shown-lower, lower-none}
+use Rattle.search.proofs.Shown.{shown-marks}
 use Rattle.search.proofs.Counting.{room-same, room-closed}
 use Rattle.search.proofs.+visit.Needs as need
-use Rattle.search.proofs.+visit.Needs.{in-Open, in-rest-look, then-is-lowest, else-is-lowest}
+use Rattle.search.proofs.+visit.Needs.{then-is-lowest, else-is-lowest}
 use borrow.Author.Tests.{eqb-true, eqb-false}
 
 pub returns-in-Break-meet : need.returns-in-Break-meet
@@ -67,23 +67,11 @@ pub loop-next-again : need.loop-next-again
 loop-next-again g t c =
     let T = g .W·Walk in
     let q = sym (c .arrow .ensures .is) ∙ ap (mapped (λ (x : Node). x .value)) (c .in-Some .is) in
-    let f = T .marks (c .visit .last .walk) in
-    let m = c .visit .last .stack in
-    let v = c .args .node .value in
-    let w = c .in-Some .next .value in
-    let V = c .in-Continue-visit .ensures tt .does in
-    let R = c .in-Continue-visit .ensures tt .room in
-    let low : shown f (c .match-look .stack) ≡ lower (shown f m) v w =
-    elim (c .match-look .came) [
-      | in-Open x ↦ ap (shown f) (x .stack-is ∙ x .lower .ensures .after) ∙ shown-lower f m v w (omega (arith, x .lower .ensures .lows, c .args .node .below)) (sym (c .look .ensures) ∙ x .in-Open .is)
-      | in-rest-look x ↦ ap (shown f) (x .stack-is) ∙ lower-none (shown f m) v w (λ o. x .in-rest-look .not-Open (c .look .ensures ∙ o))
-    ] in
-    let room : Room f (c .match-look .stack) =
-    elim (c .match-look .came) [
-      | in-Open x ↦ room-same f f m (c .match-look .stack) (λ y. refl) (ap (λ (z : Stack). z .top) (x .stack-is ∙ x .lower .ensures .after)) (ap (λ (z : Stack). z .next) (x .stack-is ∙ x .lower .ensures .after)) R
-      | in-rest-look x ↦ room-same f f m (c .match-look .stack) (λ y. refl) (ap (λ (z : Stack). z .top) (x .stack-is)) (ap (λ (z : Stack). z .next) (x .stack-is)) R
-    ] in
-    (one-further (T .arrows) (T .deeds) (c .loop-next .inv .0) (c .loop-next .inv .1) q V low, c .visit .ensures .fixed ∙ c .loop-next .inv .1, room)
+    let f = T .marks (c .visit .last .walk) in (
+      one-further (T .arrows) (T .deeds) (c .loop-next .inv .0) (c .loop-next .inv .1) q (c .in-Continue-visit .ensures tt .does) (c .heed .ensures .after),
+      c .visit .ensures .fixed ∙ c .loop-next .inv .1,
+      room-same f f (c .visit .last .stack) (c .heed .last .stack) (λ y. refl) (c .heed .ensures .top) (c .heed .ensures .next) (c .in-Continue-visit .ensures tt .room),
+    )
 
 pub returns-in-Break-act : need.returns-in-Break-act
 returns-in-Break-act g t c =

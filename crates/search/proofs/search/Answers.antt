@@ -8,6 +8,7 @@ use Rattle.search.proofs.Counting.{count-most}
 use Rattle.search.proofs.Shown.{shown-blank}
 use Rattle.search.proofs.Lawful.{success-finishes, action-follows, popped-cycle, fault-reached}
 use Rattle.search.proofs.Actions.{actions-once}
+use Rattle.search.proofs.Computing.{ends-run}
 use Rattle.search.proofs.search.Needs as need
 
 pub visit-requires : need.visit-requires
@@ -44,4 +45,5 @@ returns g c =
         once = actions-once A D s (T .state w) v t b r V;
         cycles = popped-cycle A D s (T .state w) v t b r V;
       };
+      computes = λ P C. ends-run A P C s (T .state w) v t b r V;
     }
