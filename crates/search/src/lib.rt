@@ -15,6 +15,7 @@ mod stack;
 mod walk;
 
 pub use mark::Mark;
+pub use mark::MarkPartialEq;
 pub use node::Node;
 pub use stack::Stack;
 pub use walk::Walk;

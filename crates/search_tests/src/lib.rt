@@ -18,6 +18,7 @@ mod tests {
     use crate::FailingWalk;
     use crate::Stage;
     use search::Mark;
+    use search::MarkPartialEq;
     use search::Node;
     use search::Stack;
     use search::search;
@@ -30,15 +31,16 @@ mod tests {
             counts: [0; 32],
         };
         let mut stack = Stack::new();
-        let root = Node::new(0).ok_or("no node 0")?;
+        let Some(root) = Node::new(0) else {
+            return Err(Fail::new("no node 0"));
+        };
         match search(&mut walk, &mut stack, root) {
             Ok(()) => {}
             Err(never) => match never {},
         }
-        let first = root;
         check(walk.counts[0] == 1 && walk.counts[3] == 1)?;
         check(walk.counts[5] == 1 && walk.counts[6] == 0)?;
-        let _ = search(&mut walk, &mut stack, first);
+        let _ = search(&mut walk, &mut stack, root);
         check(walk.counts[0] == 1)
     }
 
@@ -46,8 +48,12 @@ mod tests {
     fn a_failure_leaves_its_cycle_open() -> Result<(), Fail> {
         let mut marks = [Mark::Fresh; 32];
         let mut stack = Stack::new();
-        let root = Node::new(0).ok_or("no node 0")?;
-        let at = Node::new(3).ok_or("no node 3")?;
+        let Some(root) = Node::new(0) else {
+            return Err(Fail::new("no node 0"));
+        };
+        let Some(at) = Node::new(3) else {
+            return Err(Fail::new("no node 3"));
+        };
         let mut walk = Failing {
             marks: &mut marks,
             at,
@@ -65,8 +71,12 @@ mod tests {
         let mut marks = [Mark::Fresh; 32];
         marks[3] = Mark::Spoilt;
         let mut stack = Stack::new();
-        let root = Node::new(1).ok_or("no node 1")?;
-        let at = Node::new(3).ok_or("no node 3")?;
+        let Some(root) = Node::new(1) else {
+            return Err(Fail::new("no node 1"));
+        };
+        let Some(at) = Node::new(3) else {
+            return Err(Fail::new("no node 3"));
+        };
         let mut walk = Failing {
             marks: &mut marks,
             at,
