@@ -12,7 +12,7 @@ use Rattle.search.specs.declared.mark.Mark.{Mark}
 use Rattle.search.specs.declared.mark.Mark.the-variants.{Fresh, Open, Closed, Spoilt}
 use Rattle.search.specs.Graph.{item}
 use Rattle.search.specs.Search.{Search, enter, lower, down-to, Finishes, no-more, then-more, passes-open, passes-closed, stays, pops, Upto, start, further, Faults, hands-on, here, inside}
-use Rattle.search.specs.Running.{Moves, moves-deeds, Outcome, finished, faulted, starved, and-then, scan, shut-all, leave, go-on, meet, run, Says}
+use Rattle.search.specs.Running.{Moves, moves-deeds, Outcome, finished, faulted, no-depth, and-then, scan, shut-all, leave, go-on, meet, run, Says}
 
 item-at : (pre : List ℕ) (w : ℕ) (ws : List ℕ) → item (pre ++ (w ∷ ws)) (length pre) ≡ Some w
 item-at [] w ws = refl
@@ -37,7 +37,7 @@ module _ (arrows : ℕ → List ℕ) {S F : Type 0} (P : Moves S F) where
     abbrev Scanned : Outcome S F → Type 0
     Scanned (finished t b) = (i : ℕ) × (item (arrows v) i ≡ None) × Upto arrows (moves-deeds P) (enter s v) a v i t b
     Scanned (faulted t b n e) = Faults arrows (moves-deeds P) s a v t b n e
-    Scanned starved = Unit {0}
+    Scanned no-depth = Unit {0}
 
     module _ (rec : Search → S → ℕ → Outcome S F) (ih : (t : Search) (b : S) (w : ℕ) → Says arrows P t b w (rec t b w)) where
       scan-says : (pre ws : List ℕ) (t : Search) (b : S) → arrows v ≡ pre ++ ws → Upto arrows (moves-deeds P) (enter s v) a v (length pre) t b → Scanned (scan P rec v ws t b)
@@ -51,7 +51,7 @@ module _ (arrows : ℕ → List ℕ) {S F : Type 0} (P : Moves S F) where
           visited : ((t1 : Search) (c : S) → Upto arrows (moves-deeds P) (enter s v) a v (length pre + 1) t1 c → Scanned (scan P rec v ws t1 c)) → (o : Outcome S F) → Says arrows P t b w o → Scanned (and-then o (λ t1 c. scan P rec v ws (lower t1 v w) c))
           visited g (finished t1 c) V = g (lower t1 v w) c (further u at V)
           visited g (faulted t1 c n e) V = inside f u at V
-          visited g starved V = tt
+          visited g no-depth V = tt
 
     leave-says : (i : ℕ) (t : Search) (b c : S) → item (arrows v) i ≡ None → Upto arrows (moves-deeds P) (enter s v) a v i t b → P .acted b v ≡ (c, None) → (k : Bool) → eqb (t .low v) (t .index v) ≡ k → Says arrows P s a v (leave P k t c v)
     leave-says i t b c q u d true e = pops f u q d (grind arith) (shut-finishes t v (down-to v (t .stack)) c)
@@ -63,7 +63,7 @@ module _ (arrows : ℕ → List ℕ) {S F : Type 0} (P : Moves S F) where
 
     finish-says : (o : Outcome S F) → Scanned o → Says arrows P s a v (and-then o (λ t b. go-on P (P .acted b v) t v))
     finish-says (faulted t b n e) h = h
-    finish-says starved h = tt
+    finish-says no-depth h = tt
     finish-says (finished t b) h = acted-says (h .0) t b (h .1) (h .2) (P .acted b v) refl
 
   meet-says : (s : Search) (a : S) (v : ℕ) (k : Mark) (o : Unit {0} → Outcome S F) → s .mark v ≡ k → (s .mark v ≡ Fresh → Says arrows P s a v (o tt)) → Says arrows P s a v (meet P k o s a v)

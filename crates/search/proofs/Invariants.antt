@@ -12,7 +12,7 @@ use Rattle.search.specs.Search.{Search}
 abbrev pub Settled : Search → ℕ → ℕ → Type 0
 Settled s x y = (s .mark y ≡ Closed) ⊎ ((s .mark y ≡ Open) × (s .low x ≤ s .index y))
 
--- the nodes that were not Fresh are as they were
+-- the nodes that were not new are as they were
 pub record Kept (s t : Search) : Type 0 where
   pub marks : (x : ℕ) → ¬ (s .mark x ≡ Fresh) → t .mark x ≡ s .mark x
   pub indices : (x : ℕ) → ¬ (s .mark x ≡ Fresh) → t .index x ≡ s .index x
@@ -38,6 +38,7 @@ module _ (arrows : ℕ → List ℕ) where
     pub is-low : s .index node ≡ s .low x
     pub reached : Reaches arrows x node
 
+  -- the open nodes are those on the stack, with indices and low marks that fit, and finished nodes lead only to finished ones
   pub record Sound (s : Search) : Type 0 where
     pub stacked : (x : ℕ) → s .mark x ≡ Open → List·Memᴰ x (s .stack)
     pub on-stack : (x : ℕ) → List·Memᴰ x (s .stack) → s .mark x ≡ Open

@@ -67,11 +67,11 @@ pub newest-first : (m : Stack) → 0 < m .top → downward (m .nodes) (m .top) �
 newest-first m h = ap (downward (m .nodes)) (let q : m .top ≡ suc (m .top - 1) = omega arith in q)
 
 -- the search with x, which is the newest, finished and popped
-abbrev pub shed : Search → ℕ → List ℕ → Search
-shed s x r = record { mark = put (s .mark) x Closed; index = s .index; low = s .low; stack = r; next = s .next }
+abbrev pub off-stack : Search → ℕ → List ℕ → Search
+off-stack s x r = record { mark = put (s .mark) x Closed; index = s .index; low = s .low; stack = r; next = s .next }
 
-pub shown-shed : (f g : ℕ → Mark) (m : Stack) → ((x : ℕ) → g x ≡ put f (newest m .value) Closed x) → shown g (popped m) ≡ shed (shown f m) (newest m .value) (downward (m .nodes) (m .top - 1))
-shown-shed f g m M = search-path (shown g (popped m)) (shed (shown f m) (newest m .value) (downward (m .nodes) (m .top - 1))) M (λ x. refl) (λ x. refl) refl refl
+pub shown-off : (f g : ℕ → Mark) (m : Stack) → ((x : ℕ) → g x ≡ put f (newest m .value) Closed x) → shown g (popped m) ≡ off-stack (shown f m) (newest m .value) (downward (m .nodes) (m .top - 1))
+shown-off f g m M = search-path (shown g (popped m)) (off-stack (shown f m) (newest m .value) (downward (m .nodes) (m .top - 1))) M (λ x. refl) (λ x. refl) refl refl
 
 blank-at : (n x : ℕ) → _≡_ {A = ℕ} (getD (replicate n 0) x 0) 0
 blank-at zero x = refl

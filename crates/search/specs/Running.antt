@@ -31,13 +31,13 @@ moves-deeds P = record {
 pub data Outcome (S F : Type 0) : Type 0 where
   finished : Search → S → Outcome S F
   faulted : Search → S → ℕ → F → Outcome S F
-  starved : Outcome S F
+  no-depth : Outcome S F
 
 -- where a run has ended well, it goes on
 abbrev pub and-then : {S F : Type 0} → Outcome S F → (Search → S → Outcome S F) → Outcome S F
 and-then (finished s a) k = k s a
 and-then (faulted s a n e) k = faulted s a n e
-and-then starved k = starved
+and-then no-depth k = no-depth
 
 module _ {S F : Type 0} (P : Moves S F) where
   -- the arrows of v that are left are searched by a function, in order
@@ -69,14 +69,14 @@ module _ {S F : Type 0} (P : Moves S F) where
 
 -- the search of v, no deeper than a number
 unfoldable pub run : (ℕ → List ℕ) → {S F : Type 0} → Moves S F → ℕ → Search → S → ℕ → Outcome S F
-run arrows P zero s a v = starved
+run arrows P zero s a v = no-depth
 run arrows P (suc n) s a v = meet P (s .mark v) (λ _. and-then (scan P (run arrows P n) v (arrows v) (enter s v) a) (λ t b. go-on P (P .acted b v) t v)) s a v
 
 -- what an outcome of a run from s and a at v says
 abbrev pub Says : (ℕ → List ℕ) → {S F : Type 0} → Moves S F → Search → S → ℕ → Outcome S F → Type 0
 Says arrows P s a v (finished t b) = Visits arrows (moves-deeds P) s a v t b
 Says arrows P s a v (faulted t b n e) = Faults arrows (moves-deeds P) s a v t b n e
-Says arrows P s a v starved = Unit {0}
+Says arrows P s a v no-depth = Unit {0}
 
 -- each run is a search
 abbrev pub Runs-are-searches : Type 0 → Type 0 → Type 0

@@ -1,3 +1,4 @@
+-- What the loop over the arrows of a node keeps, and why `visit` ends.
 use mathlib.Core.Path.{_≡_}
 use Prim.Native.Nat.{_-_, _^_}
 use Rattle.search.specs.Search.{Upto}

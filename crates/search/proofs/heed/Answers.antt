@@ -1,3 +1,4 @@
+-- What is left to show of `heed`.
 use mathlib.Core.Path.{refl, sym, _∙_, ap}
 use native.Mathlib.Omega.{arith}
 use Rattle.search.specs.declared.stack.Stack.{Stack}

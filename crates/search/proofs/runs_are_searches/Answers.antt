@@ -1,3 +1,4 @@
+-- Each run is a search.
 use Rattle.search.proofs.Functions.{run-says}
 use Rattle.search.proofs.runs_are_searches.Needs as need
 

@@ -1,3 +1,4 @@
+-- What is left to show of `search`.
 use mathlib.Core.Path.{_≡_, sym, subst, subst⁻¹}
 use mathlib.Core.List.{[]}
 use native.Mathlib.Omega.{arith}

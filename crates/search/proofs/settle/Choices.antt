@@ -1,3 +1,4 @@
+-- What the loop that pops keeps, and why it ends.
 use mathlib.Core.Path.{_≡_}
 use Prim.Native.Nat.{_≤_}
 use Rattle.search.specs.Stacks.{shown}
