@@ -2,11 +2,12 @@
 use mathlib.Core.Path.{_≡_}
 use mathlib.Core.Bool.{cond}
 use mathlib.Core.List.{List, [], _∷_}
-use Prim.Native.Nat.{ℕ, _+_, _%_}
+use Prim.Native.Nat.{ℕ, _+_, _%_, _<_}
 use lib.Dec.{eqb}
 use lib.ListN.{getD, set}
 use Rattle.std.specs.declared.option.Option.{Option}
 use Rattle.std.specs.declared.option.Option.the-variants.{Some, None}
+use Rattle.search.specs.Graph.{Reaches}
 use Rattle.search.specs.Search.{Deeds}
 use Rattle.search.specs.declared.mark.Mark.{Mark}
 use Rattle.search.specs.declared.mark.Mark.the-variants.{Fresh, Open, Closed}
@@ -56,3 +57,7 @@ failing n = record {
   holds = λ s a v e. e .at ≡ n;
   closes = λ s a x v b. Unit {0};
 }
+
+-- each node that v reaches is counted once, and no other
+abbrev pub Each-reached-node-is-counted-once : ℕ → List ℕ → Type 0
+Each-reached-node-is-counted-once v l = (x : ℕ) → x < 32 → (Reaches cycles v x → getD l x 0 ≡ 1) × (¬ Reaches cycles v x → getD l x 0 ≡ 0)

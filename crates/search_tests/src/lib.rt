@@ -1,4 +1,7 @@
 // Two walks over a fixed graph, searched.
+ghost use Rattle.search_tests.specs.Example.{Nested-cycles-are-popped-together};
+ghost use Rattle.search_tests.specs.Walks.{Each-reached-node-is-counted-once};
+
 mod counting;
 mod failing;
 mod graph;
@@ -9,6 +12,29 @@ pub use counting::Stage;
 pub use failing::Failed;
 pub use failing::Failing;
 pub use failing::FailingWalk;
+use search::Node;
+use search::Stack;
+use search::search;
+
+/// Counts each node that the root reaches.
+pub fn count(root: Node) -> [u8; 32]
+    ensures { λ r. ⌜ Each-reached-node-is-counted-once (root .value) r ⌝ }
+{
+    let mut walk = Counting {
+        stages: [Stage::New; 32],
+        counts: [0; 32],
+    };
+    let mut stack = Stack::new();
+    match search(&mut walk, &mut stack, root) {
+        Ok(()) => walk.counts,
+        Err(never) => match never {},
+    }
+}
+
+/// The search of the fixed graph from 0, computed.
+pub fn example()
+    ensures { λ _. ⌜ Nested-cycles-are-popped-together ⌝ }
+{}
 
 #[cfg(test)]
 mod tests {
@@ -17,6 +43,7 @@ mod tests {
     use crate::Failing;
     use crate::FailingWalk;
     use crate::Stage;
+    use crate::count;
     use search::Mark;
     use search::MarkPartialEq;
     use search::Node;
@@ -26,22 +53,26 @@ mod tests {
 
     #[test]
     fn each_node_is_counted_once() -> Result<(), Fail> {
-        let mut walk = Counting {
-            stages: [Stage::New; 32],
-            counts: [0; 32],
-        };
-        let mut stack = Stack::new();
         let Some(root) = Node::new(0) else {
             return Err(Fail::new("no node 0"));
         };
-        match search(&mut walk, &mut stack, root) {
-            Ok(()) => {}
-            Err(never) => match never {},
-        }
-        check(walk.counts[0] == 1 && walk.counts[3] == 1)?;
-        check(walk.counts[5] == 1 && walk.counts[6] == 0)?;
+        let counts = count(root);
+        check(counts[0] == 1 && counts[3] == 1)?;
+        check(counts[5] == 1 && counts[6] == 0)
+    }
+
+    #[test]
+    fn what_is_counted_is_not_counted_again() -> Result<(), Fail> {
+        let Some(root) = Node::new(4) else {
+            return Err(Fail::new("no node 4"));
+        };
+        let mut walk = Counting {
+            stages: [Stage::Counted; 32],
+            counts: [7; 32],
+        };
+        let mut stack = Stack::new();
         let _ = search(&mut walk, &mut stack, root);
-        check(walk.counts[0] == 1)
+        check(walk.counts[4] == 7)
     }
 
     #[test]

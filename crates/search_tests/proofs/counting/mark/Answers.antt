@@ -1,3 +1,4 @@
+-- What is left to show of `mark`.
 use mathlib.Core.Path.{_∙_, ap}
 use Prim.Native.Nat.{ℕ, _<_}
 use native.Mathlib.Omega.{arith}
