@@ -7,8 +7,9 @@ use lib.Dec.{eqb}
 use lib.ListN.{getD, set}
 use Rattle.std.specs.declared.option.Option.{Option}
 use Rattle.std.specs.declared.option.Option.the-variants.{Some, None}
+use Rattle.std.specs.declared.result.Result.{Result}
 use Rattle.search.specs.Graph.{Reaches}
-use Rattle.search.specs.Search.{Deeds}
+use Rattle.search.specs.Search.{Search, begin, Deeds, Ends}
 use Rattle.search.specs.declared.mark.Mark.{Mark}
 use Rattle.search.specs.declared.mark.Mark.the-variants.{Fresh, Open, Closed}
 use Rattle.search_tests.specs.declared.counting.Stage.{Stage}
@@ -61,3 +62,7 @@ failing n = record {
 -- each node that v reaches is counted once, and no other
 abbrev pub Each-reached-node-is-counted-once : ℕ → List ℕ → Type 0
 Each-reached-node-is-counted-once v l = (x : ℕ) → x < 32 → (Reaches cycles v x → getD l x 0 ≡ 1) × (¬ Reaches cycles v x → getD l x 0 ≡ 0)
+
+-- a search whose action fails at a node leads from marks to others
+abbrev pub Fails-at : ℕ → ℕ → List Mark → List Mark → Result (Unit {0}) Failed → Type 0
+Fails-at n v old new r = (t : Search) × Ends cycles (failing n) (begin (λ x. getD old x Fresh)) tt v t tt r × ((x : ℕ) → t .mark x ≡ getD new x Fresh)

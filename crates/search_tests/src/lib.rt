@@ -1,6 +1,6 @@
 // Two walks over a fixed graph, searched.
 ghost use Rattle.search_tests.specs.Example.{Nested-cycles-are-popped-together};
-ghost use Rattle.search_tests.specs.Walks.{Each-reached-node-is-counted-once};
+ghost use Rattle.search_tests.specs.Walks.{Each-reached-node-is-counted-once, Fails-at};
 
 mod counting;
 mod failing;
@@ -12,6 +12,7 @@ pub use counting::Stage;
 pub use failing::Failed;
 pub use failing::Failing;
 pub use failing::FailingWalk;
+use search::Mark;
 use search::Node;
 use search::Stack;
 use search::search;
@@ -31,6 +32,18 @@ pub fn count(root: Node) -> [u8; 32]
     }
 }
 
+/// Searches from `root` over lent marks, with an action that fails at `at`.
+pub fn fail(marks: &mut [Mark; 32], at: Node, root: Node) -> Result<(), Failed>
+    ensures { λ r. ⌜ Fails-at (at .value) (root .value) (now (marks .entry)) (now (marks .exit)) r ⌝ }
+{
+    let mut walk = Failing {
+        marks: &mut *marks,
+        at,
+    };
+    let mut stack = Stack::new();
+    search(&mut walk, &mut stack, root)
+}
+
 /// The search of the fixed graph from 0, computed.
 pub fn example()
     ensures { λ _. ⌜ Nested-cycles-are-popped-together ⌝ }
@@ -40,10 +53,9 @@ pub fn example()
 mod tests {
     use crate::Counting;
     use crate::CountingWalk;
-    use crate::Failing;
-    use crate::FailingWalk;
     use crate::Stage;
     use crate::count;
+    use crate::fail;
     use search::Mark;
     use search::MarkPartialEq;
     use search::Node;
@@ -78,18 +90,13 @@ mod tests {
     #[test]
     fn a_failure_leaves_its_cycle_open() -> Result<(), Fail> {
         let mut marks = [Mark::Fresh; 32];
-        let mut stack = Stack::new();
         let Some(root) = Node::new(0) else {
             return Err(Fail::new("no node 0"));
         };
         let Some(at) = Node::new(3) else {
             return Err(Fail::new("no node 3"));
         };
-        let mut walk = Failing {
-            marks: &mut marks,
-            at,
-        };
-        match search(&mut walk, &mut stack, root) {
+        match fail(&mut marks, at, root) {
             Ok(()) => return Err(Fail::new("no failure")),
             Err(failed) => check(failed.at == 3)?,
         }
@@ -101,18 +108,13 @@ mod tests {
     fn a_spoilt_node_hands_its_failure_on() -> Result<(), Fail> {
         let mut marks = [Mark::Fresh; 32];
         marks[3] = Mark::Spoilt;
-        let mut stack = Stack::new();
         let Some(root) = Node::new(1) else {
             return Err(Fail::new("no node 1"));
         };
         let Some(at) = Node::new(3) else {
             return Err(Fail::new("no node 3"));
         };
-        let mut walk = Failing {
-            marks: &mut marks,
-            at,
-        };
-        match search(&mut walk, &mut stack, root) {
+        match fail(&mut marks, at, root) {
             Ok(()) => return Err(Fail::new("no failure")),
             Err(failed) => check(failed.at == 3)?,
         }
