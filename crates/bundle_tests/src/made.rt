@@ -6,7 +6,7 @@ use std::alloc::AllocError;
 use std::alloc::Global;
 
 // Whether this many modules are read.
-pub fn is_read(heap: Global, bytes: &[u8], count: usize) -> bool {
+pub(crate) fn is_read(heap: Global, bytes: &[u8], count: usize) -> bool {
     match bundle::read(heap, bytes) {
         Ok(entries) => entries.len() == count,
         Err(_) => false,
@@ -14,7 +14,7 @@ pub fn is_read(heap: Global, bytes: &[u8], count: usize) -> bool {
 }
 
 // Whether the bytes are denied with 13, no place, at this byte.
-pub fn is_denied(heap: Global, bytes: &[u8], byte: usize) -> bool {
+pub(crate) fn is_denied(heap: Global, bytes: &[u8], byte: usize) -> bool {
     match bundle::read(heap, bytes) {
         Ok(_) => false,
         Err(d) => matches!(d.cause, Cause::MalformedBundle) && d.place.is_none() && d.byte == byte,
@@ -22,7 +22,7 @@ pub fn is_denied(heap: Global, bytes: &[u8], byte: usize) -> bool {
 }
 
 // The entries `a`, `b`, .., each an empty text; from the 27th on `a0`, `b0`, ..
-pub fn numbered(heap: Global, count: usize) -> Result<Vec<u8>, AllocError> {
+pub(crate) fn numbered(heap: Global, count: usize) -> Result<Vec<u8>, AllocError> {
     let mut bytes = Vec::new(heap);
     for i in 0..count {
         let letter = b'a' + (i % 26) as u8;
@@ -36,7 +36,7 @@ pub fn numbered(heap: Global, count: usize) -> Result<Vec<u8>, AllocError> {
 }
 
 // One text with the key `a` and a payload of this many bytes.
-pub fn one_text(heap: Global, size: u16) -> Result<Vec<u8>, AllocError> {
+pub(crate) fn one_text(heap: Global, size: u16) -> Result<Vec<u8>, AllocError> {
     let mut bytes = Vec::new(heap);
     let [high, low] = size.to_be_bytes();
     bytes.extend_from_slice(&[1, high, low, b'a'])?;
@@ -46,7 +46,7 @@ pub fn one_text(heap: Global, size: u16) -> Result<Vec<u8>, AllocError> {
     Ok(bytes)
 }
 
-pub fn text<'a>(key: &'a [u8], payload: &'a [u8]) -> Entry<'a> {
+pub(crate) fn text<'a>(key: &'a [u8], payload: &'a [u8]) -> Entry<'a> {
     Entry {
         kind: PayloadKind::Text,
         key,
