@@ -15,14 +15,13 @@ use Rattle.entries.specs.declared.stop.Stop.{Stop}
 use Rattle.entries.specs.declared.stop.Stop.the-variants.{Malformed, TooMany, Repeated}
 use Rattle.record.specs.declared.value.Value.{Value}
 use Rattle.record.specs.declared.denial.Cause.{Cause}
-use Rattle.record.specs.declared.denial.Cause.the-variants.{RepeatedName, OverLimit, MalformedList, OutOfMemory}
+use Rattle.record.specs.declared.denial.Cause.the-variants.{RepeatedName, OverLimit, MalformedList}
 use Rattle.record.specs.declared.denial.LoadFault.{LoadFault}
+use Rattle.record.specs.Memory.{memory-fault}
 use Rattle.record.specs.Modules.{well-formed}
 use Rattle.record.specs.Plain.{plain}
 use Rattle.list.specs.declared.entry.Entry as rust
 use Rattle.list.specs.declared.module.SyntheticModule.{SyntheticModule}
-use Rattle.list.specs.declared.reader.Unread.{Unread}
-use Rattle.list.specs.declared.reader.Unread.the-variants as unread
 use Rattle.list.specs.Lists.{Entry, Content, kind, pattern-of, whole, encoded, good, list-format, value, values-of, module-of, Has-a-cell-for-each-entry}
 
 -- what stands behind a name, for an entry of value kind k: a content with this value, and then the rest; or no such content
@@ -50,19 +49,16 @@ pub record Is-module (s : List ℕ) (es : List Entry) (m : SyntheticModule) : Ty
   pub values : vec-items (m .values) ≡ values-of es
   pub well : well-formed (plain (m .«record»)) ≡ true
 
--- the one module that the bytes are, or where they stop; of want of memory nothing is said
-abbrev pub Means-module : List ℕ → Result SyntheticModule Unread → Type 0
-Means-module s (Ok m) = (es : List Entry) × Is-module s es m
-Means-module s (Err (unread.Stopped why byte)) = Means-only list-format s (Err (why, byte))
-Means-module s (Err unread.OutOfMemory) = Unit {0}
-
 -- the cause of a list's refusal
 abbrev pub cause-of : Stop → Cause
 cause-of Malformed = MalformedList
 cause-of TooMany = OverLimit
 cause-of Repeated = RepeatedName
 
+abbrev pub refused-for : Stop → ℕ → LoadFault
+refused-for why byte = record { cause = cause-of why; byte = byte }
+
 -- a module is answered exactly where the bytes are a well-formed list, and is that list's; any other byte string is refused for the one cause at the one byte; or there is no memory
 abbrev pub Reads-exactly : List ℕ → Result SyntheticModule LoadFault → Type 0
 Reads-exactly s (Ok m) = (es : List Entry) × Is-module s es m
-Reads-exactly s (Err f) = (f ≡ record { cause = OutOfMemory; byte = 0 }) ⊎ ((why : Stop) × (f .cause ≡ cause-of why) × Means-only list-format s (Err (why, f .byte)))
+Reads-exactly s (Err f) = (f ≡ memory-fault) ⊎ ((why : Stop) × (byte : ℕ) × (f ≡ refused-for why byte) × Means-only list-format s (Err (why, byte)))

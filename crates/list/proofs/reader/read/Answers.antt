@@ -1,8 +1,10 @@
 use mathlib.Core.Path.{sym}
+use mathlib.Core.Logic.{inr}
+use Rattle.entries.specs.declared.stop.Stop.the-variants.{Malformed}
 use Rattle.std.proofs.shelf.Tests.{eqb-true, eqb-false}
 use Rattle.entries.specs.Seen.{seen}
 use Rattle.list.proofs.Reading.{at-first, fits, malformed, whole-list, shorter, refused, one-more-read}
-use Rattle.list.proofs.reader.module_in.Needs as need
+use Rattle.list.proofs.reader.read.Needs as need
 
 pub loop-rest-holds : need.loop-rest-holds
 loop-rest-holds c = at-first (c .args .bytes .now) (c .new-module .result) (seen (c .new-seen .result)) (c .new-module .ensures .declares) (c .new-module .ensures .values) (c .new-seen .ensures)
@@ -12,13 +14,13 @@ sub-byte c = fits (c .args .bytes .now) (c .loop-rest .module) (seen (c .loop-re
 
 pub returns-in-rest : need.returns-in-rest
 returns-in-rest c =
-    malformed (c .args .bytes .now) (c .loop-rest .module) (seen (c .loop-rest .seen)) (c .loop-rest .rest .now) (c .loop-rest .inv)
-    (eqb-false _ 0 (sym (c .loop-rest-test .ensures tt))) (c .in-rest .ensures tt)
+    inr (Malformed, _, c .refused .ensures, malformed (c .args .bytes .now) (c .loop-rest .module) (seen (c .loop-rest .seen)) (c .loop-rest .rest .now) (c .loop-rest .inv)
+    (eqb-false _ 0 (sym (c .loop-rest-test .ensures tt))) (c .in-rest .ensures tt))
 
 pub returns-in-Some-refusal : need.returns-in-Some-refusal
 returns-in-Some-refusal c =
-    refused (c .args .bytes .now) (c .loop-rest .module) (seen (c .loop-rest .seen)) (c .loop-rest .rest .now) (c .loop-rest .inv)
-    (c .in-Some .entry) (c .in-Some .ensures tt) (c .in-Some-refusal .stop) (sym (c .in-Some-refusal .ensures tt))
+    inr (c .in-Some-refusal .stop, _, c .refused-in-Some-refusal .ensures, refused (c .args .bytes .now) (c .loop-rest .module) (seen (c .loop-rest .seen)) (c .loop-rest .rest .now) (c .loop-rest .inv)
+    (c .in-Some .entry) (c .in-Some .ensures tt) (c .in-Some-refusal .stop) (sym (c .in-Some-refusal .ensures tt)))
 
 pub loop-rest-less : need.loop-rest-less
 loop-rest-less c =

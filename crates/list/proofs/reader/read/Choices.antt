@@ -1,7 +1,7 @@
 use lib.ListN.{length}
 use Rattle.entries.specs.Seen.{seen}
 use Rattle.list.proofs.Reading.{So-far}
-use Rattle.list.proofs.reader.module_in.Given as given
+use Rattle.list.proofs.reader.read.Given as given
 
 abbrev pub Inv-loop-rest : given.InvT-loop-rest
 Inv-loop-rest l = So-far (l .bytes) (l .module) (seen (l .seen)) (l .rest)
