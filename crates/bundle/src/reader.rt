@@ -14,6 +14,9 @@ use record::DenialFromAlloc;
 use record::DenialFromRefused;
 use std::alloc::Global;
 
+// How many bytes a bundle has at most.
+pub(crate) const LONGEST: usize = 65536;
+
 pub(crate) fn malformed(byte: usize) -> Denial
     ensures { λ r. ⌜ r ≡ malformed-at byte ⌝ }
 {
@@ -84,8 +87,8 @@ pub fn read<'a>(heap: Global, bytes: &'a [u8]) -> Result<Vec<Entry<'a>>, Denial>
     ensures reads { λ r. ⌜ Reads (now (bytes .entry)) (plain-read r) ⌝ }
     ensures inverts { λ r. ⌜ Inverts-writing (now (bytes .entry)) (plain-read r) ⌝ }
 {
-    if bytes.len() > 65536 {
-        return Err(malformed(65536));
+    if bytes.len() > LONGEST {
+        return Err(malformed(LONGEST));
     }
     read_entries(heap, bytes)
 }

@@ -13,6 +13,7 @@ ghost use Rattle.bundle.specs.Format.{kind-number, head-bytes, encoded, good, 
 ghost use Rattle.bundle.specs.Bundles.{Writes, Refuses-as-reading-would};
 use crate::entry::Entry;
 use crate::entry::PayloadKind;
+use crate::reader::LONGEST;
 use crate::reader::malformed;
 use entries::Seen;
 use names::is_key;
@@ -34,7 +35,7 @@ fn left_behind(room: usize, e: &Entry<'_>) -> Option<usize>
 fn is_too_long(entries: &[Entry<'_>]) -> bool
     ensures { λ r. ⌜ r ≡ ltb 65536 (length (all-encoded format (plain-all (now (entries .entry))))) ⌝ }
 {
-    let mut room = 65536;
+    let mut room = LONGEST;
     for e in entries {
         match left_behind(room, e) {
             Some(left) => room = left,
@@ -108,7 +109,7 @@ pub fn write(heap: Global, entries: &[Entry<'_>]) -> Result<Vec<u8>, Denial>
     ensures refuses { λ r. ⌜ Refuses-as-reading-would (plain-all (now (entries .entry))) (plain-written r) ⌝ }
 {
     if is_too_long(entries) {
-        return Err(malformed(65536));
+        return Err(malformed(LONGEST));
     }
     write_entries(heap, entries)
 }

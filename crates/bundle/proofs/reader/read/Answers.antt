@@ -6,10 +6,10 @@ use Rattle.bundle.specs.Bundles.{Out-of-memory, Refused, too-long}
 use Rattle.bundle.proofs.Reading.{inverts}
 use Rattle.bundle.proofs.reader.read.Needs as need
 
-pub returns-then-bytes-gt65536 : need.returns-then-bytes-gt65536
-returns-then-bytes-gt65536 c =
+pub returns-then-bytes-gt-LONGEST : need.returns-then-bytes-gt-LONGEST
+returns-then-bytes-gt-LONGEST c =
     let s = c .args .bytes .now in
-    let h : Out-of-memory (c .malformed .result) ⊎ Refused s (c .malformed .result) = inr (subst (Refused s) (sym (c .malformed .ensures)) (too-long (c .if-bytes-gt65536 .taken))) in
+    let h : Out-of-memory (c .malformed .result) ⊎ Refused s (c .malformed .result) = inr (subst (Refused s) (sym (c .malformed .ensures)) (too-long (c .if-bytes-gt-LONGEST .taken))) in
     record { reads = h; inverts = inverts s (Err (c .malformed .result)) h }
 
 pub returns : need.returns

@@ -14,13 +14,23 @@ sub-byte c = fits (c .args .bytes .now) (c .loop-rest .module) (seen (c .loop-re
 
 pub returns-in-rest : need.returns-in-rest
 returns-in-rest c =
-    inr (Malformed, _, c .refused .ensures, malformed (c .args .bytes .now) (c .loop-rest .module) (seen (c .loop-rest .seen)) (c .loop-rest .rest .now) (c .loop-rest .inv)
-    (eqb-false _ 0 (sym (c .loop-rest-test .ensures tt))) (c .in-rest .ensures tt))
+    inr (
+      Malformed,
+      _,
+      c .refused .ensures,
+      malformed (c .args .bytes .now) (c .loop-rest .module) (seen (c .loop-rest .seen)) (c .loop-rest .rest .now) (c .loop-rest .inv)
+          (eqb-false _ 0 (sym (c .loop-rest-test .ensures tt))) (c .in-rest .ensures tt),
+    )
 
 pub returns-in-Some-refusal : need.returns-in-Some-refusal
 returns-in-Some-refusal c =
-    inr (c .in-Some-refusal .stop, _, c .refused-in-Some-refusal .ensures, refused (c .args .bytes .now) (c .loop-rest .module) (seen (c .loop-rest .seen)) (c .loop-rest .rest .now) (c .loop-rest .inv)
-    (c .in-Some .entry) (c .in-Some .ensures tt) (c .in-Some-refusal .stop) (sym (c .in-Some-refusal .ensures tt)))
+    inr (
+      c .in-Some-refusal .stop,
+      _,
+      c .refused-in-Some-refusal .ensures,
+      refused (c .args .bytes .now) (c .loop-rest .module) (seen (c .loop-rest .seen)) (c .loop-rest .rest .now) (c .loop-rest .inv)
+          (c .in-Some .entry) (c .in-Some .ensures tt) (c .in-Some-refusal .stop) (sym (c .in-Some-refusal .ensures tt)),
+    )
 
 pub loop-rest-less : need.loop-rest-less
 loop-rest-less c =
