@@ -9,6 +9,9 @@ use names::same_name;
 use std::alloc::AllocError;
 use std::alloc::Global;
 
+// How many entries there may be.
+const MOST: usize = 32;
+
 #[derive(Drop)]
 pub struct Seen<'a> {
     names: Vec<&'a [u8]>,
@@ -38,7 +41,7 @@ impl<'a> Seen<'a> {
     pub fn refusal(&self, name: &[u8]) -> Option<Stop>
         ensures { λ r. ⌜ r ≡ refusal (seen (now (self .entry))) (now (name .entry)) ⌝ }
     {
-        if self.names.len() >= 32 {
+        if self.names.len() >= MOST {
             return Some(Stop::TooMany);
         }
         if self.has(name) {

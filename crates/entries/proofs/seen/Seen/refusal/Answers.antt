@@ -7,8 +7,8 @@ use Rattle.entries.specs.Seen.{seen}
 use Rattle.entries.proofs.Seeing.{refuses-a-33rd, refuses-a-repeated, refuses-no-other}
 use Rattle.entries.proofs.seen.Seen.refusal.Needs as need
 
-pub returns-then-len-ge32 : need.returns-then-len-ge32
-returns-then-len-ge32 c =
+pub returns-then-len-ge-MOST : need.returns-then-len-ge-MOST
+returns-then-len-ge-MOST c =
     let n : length (seen (c .args .self .now)) ≡ c .len .result = length-map (vec-items (c .args .self .now .names)) now ∙ sym (c .args .self .now .names .ok .0) ∙ sym (c .len .ensures) in
     refuses-a-33rd (seen (c .args .self .now)) (c .args .name .now) (omega arith)
 
