@@ -1,0 +1,3 @@
+// Hosts: where keys and specifiers lead.
+mod goal;
+mod walk;
