@@ -1,5 +1,6 @@
 -- A loop over rows: the first bad one, what they say, and that their order does not count.
 use mathlib.Core.Path.{_≡_, refl, sym, _∙_, ap, subst}
+use mathlib.Core.Logic.{_⊎_, inl, inr}
 use mathlib.Core.Bool.{Bool, true, false, not, _&&_, _||_}
 use mathlib.Core.List.{List, [], _∷_, _++_, map, List·Memᴰ, Memᴰ·map, Memᴰ·of-map}
 use Prim.Native.Nat.{ℕ, suc, _+_, _≤_, _<_}
@@ -19,8 +20,10 @@ use Rattle.names.proofs.Every.{every-append}
 use Rattle.outcome.specs.declared.Outcome.{Outcome}
 use Rattle.outcome.specs.Joining.{joined, joined-all, Same-members}
 use Rattle.outcome.proofs.Joins.{laws, joined-all-push}
+use Rattle.record.specs.declared.denial.Denial.{Denial}
 use Rattle.host.specs.Paths.{and-then}
-use Rattle.host.specs.MappedHosts.{Row, plain, plain-all, says, placed, good-row, good-rows, First-bad-row, mapped-to, Order-of-rows-and-rows-written-twice-do-not-affect-an-answer}
+use Rattle.host.specs.Holding.{Refuses-keys}
+use Rattle.host.specs.MappedHosts.{Row, plain, plain-all, says, placed, good-row, good-rows, First-bad-row, mapped-to, Refuses-to-map, no-memory, bad-key, Order-of-rows-and-rows-written-twice-do-not-affect-an-answer}
 use Rattle.host.specs.declared.row.Row as code
 
 module _ (rs : List code.Row) (i : ℕ) (d : code.Row) (l : i < length rs) where
@@ -72,3 +75,8 @@ order-of-rows ks rows others same m x = by (nth ks m)
     by : (o : Option Name) → and-then o (λ j. mapped-to ks others j x) ≡ and-then o (λ j. mapped-to ks rows j x)
     by None = refl
     by (Some j) = ap (placed ks) (laws sameBytes sameBytes-decides .lists-order-and-repetition _ _ (said-again (says j x) rows others same))
+
+-- keys that are refused
+pub keys-refused : (ks : List Name) (rows : List Row) (d : Denial) → Refuses-keys ks d → Refuses-to-map ks rows d
+keys-refused ks rows d (inl e) = subst (Refuses-to-map ks rows) (sym e) no-memory
+keys-refused ks rows d (inr (n, e, f)) = subst (Refuses-to-map ks rows) (sym e) (bad-key f)
