@@ -17,7 +17,6 @@ use Rattle.std.specs.declared.option.Option.the-variants.{Some, None}
 use Rattle.std.specs.shelf.Text.{sameBytes}
 use Rattle.std.proofs.shelf.Equals.{sameBytes-decides}
 use Rattle.std.proofs.shelf.Lists.{getD-map, nil-from-length}
-use Rattle.std.proofs.shelf.Maps.{nth-getD}
 use Rattle.std.proofs.shelf.Tests.{and-parts, and-from, cond-true, false≢true, true≢false}
 use Rattle.names.specs.Names.{Name, every, distinct}
 use Rattle.names.specs.Keys.{key, parts, path, not-slash}
@@ -25,10 +24,11 @@ use Rattle.names.proofs.Every.{every-append}
 use Rattle.names.proofs.Keys.{path-parts}
 use Rattle.host.specs.Paths.{and-then, without-last, parent, walked, relative}
 use Rattle.host.specs.Holding.{first-place, place-of, holdable, all-now}
-use Rattle.host.specs.FileHosts.{directory, led-to, file-hosting, plain-part, way, Plain-specifiers-lead-down, Ways-between-held-keys-are-found}
+use Rattle.host.specs.FileHosts.{directory, ordinary, led-to, file-hosting, Leads-to-place, Follows-paths, plain-part, way, Plain-specifiers-lead-down, Ways-between-held-keys-are-found}
 use Rattle.host.specs.Lawful.{held-at, is-held-key, every-at}
-use Rattle.host.proofs.Walks.{never, walked-append, last-one, parent-push}
-use Rattle.host.proofs.Leading.{ordinary, slashless, every-weaker, every-without-last, walked-ordinary, key-ordinary, from-directory, parts-slashless, walked-keeps, parts-of-path, relative-more}
+use Rattle.host.proofs.Walks.{never, then-some, walked-append, last-one, parent-push}
+use Rattle.host.proofs.Numbered.{at-its-place, no-key-there}
+use Rattle.host.proofs.Leading.{slashless, every-weaker, every-without-last, walked-ordinary, key-ordinary, from-directory, parts-slashless, walked-keeps, parts-of-path, relative-more, relative-begins, begins-relative, walks-so, so-walks}
 
 -- whether a key is the path at the end of a walk
 abbrev pub led : Option (List Name) → Name → Bool
@@ -72,27 +72,18 @@ module _ (ks : List Name) (ok : holdable ks ≡ true) where
   pub all-keys : every key ks ≡ true
   all-keys = and-parts (every key ks) (distinct ks && leb (length ks) 32) ok .0
 
-  at-its-place : (j : Name) (m : ℕ) → place-of ks j ≡ Some m → nth ks m ≡ Some j
-  at-its-place j m e = let h = held-at ks j m e in nth-getD ks m [] (h .0) ∙ ap Some (h .1)
-
   -- a specifier of these parts, from a held key
   follows : (j : Name) (m : ℕ) → place-of ks j ≡ Some m → (x : Name) (xs : List Name) → every slashless (x ∷ xs) ≡ true → relative (x ∷ xs) ≡ true → (p : List Name) → walked (directory j) (x ∷ xs) ≡ Some p → file-hosting ks .follow m (path (x ∷ xs)) ≡ place-of ks (path p)
   follows j m e x xs s r p w =
-      ap (λ o. and-then o (λ j. led-to ks j (path (x ∷ xs)))) (at-its-place j m e)
+      ap (λ o. and-then o (λ j. led-to ks j (path (x ∷ xs)))) (at-its-place ks j m e)
       ∙ ap (λ l. cond (relative l) (and-then (walked (directory j) l) (λ p. place-of ks (path p))) None) (parts-of-path x xs s)
       ∙ cond-true _ _ _ r ∙ ap (λ o. and-then o (λ p. place-of ks (path p))) w
 
   plain-slashless : (x : Name) → plain-part x ≡ true → slashless x ≡ true
-  plain-slashless x h =
-      let s = and-parts (not (sameBytes x [])) _ h in
-      let t = and-parts (not (sameBytes x (codes "."))) _ (s .1) in
-      and-parts (not (sameBytes x (codes ".."))) (slashless x) (t .1) .1
+  plain-slashless x h = and-parts (ordinary x) (slashless x) h .1
 
   plain-ordinary : (x : Name) → plain-part x ≡ true → ordinary x ≡ true
-  plain-ordinary x h =
-      let s = and-parts (not (sameBytes x [])) _ h in
-      let t = and-parts (not (sameBytes x (codes "."))) _ (s .1) in
-      and-from _ _ (s .0) (and-from _ _ (t .0) (and-parts (not (sameBytes x (codes ".."))) (slashless x) (t .1) .0))
+  plain-ordinary x h = and-parts (ordinary x) (slashless x) h .0
 
   pub plain-specifiers : Plain-specifiers-lead-down (file-hosting ks)
   plain-specifiers j m e x xs h =
@@ -138,4 +129,15 @@ module _ (ks : List Name) (ok : holdable ks ≡ true) where
   ways = record {
     behind-here = λ j k m n e f shared up down from to l. found-behind-here j k n f shared up down from to m e l;
     upwards = found-upwards;
+  }
+
+  led-somewhere : (j x : Name) (n : ℕ) (t : Bool) → relative (parts x) ≡ t → cond t (and-then (walked (directory j) (parts x)) (λ p. place-of ks (path p))) None ≡ Some n → Leads-to-place (file-hosting ks) j x n
+  led-somewhere j x n true r e = let (p, f, g) = then-some (walked (directory j) (parts x)) (λ p. place-of ks (path p)) n e in record { begins = relative-begins x r; end = p; walks = so-walks (parts x) (directory j) p f; held = g }
+  led-somewhere j x n false r e = never e
+
+  pub follows-paths : Follows-paths (file-hosting ks)
+  follows-paths = record {
+    answers = λ j m e x n f. led-somewhere j x n (relative (parts x)) refl (sym (ap (λ o. and-then o (λ j. led-to ks j x)) (at-its-place ks j m e)) ∙ f);
+    answered = λ j m e x n l. ap (λ o. and-then o (λ j. led-to ks j x)) (at-its-place ks j m e) ∙ cond-true _ _ _ (begins-relative x (l .begins)) ∙ ap (λ o. and-then o (λ p. place-of ks (path p))) (walks-so (parts x) (directory j) (l .end) (l .walks)) ∙ l .held;
+    without-referrer = λ m h x. ap (λ o. and-then o (λ j. led-to ks j x)) (no-key-there ks ok m h);
   }

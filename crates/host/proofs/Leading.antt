@@ -1,5 +1,6 @@
 -- Names as parts: where they lead, and that a path of them comes apart again.
 use mathlib.Core.Path.{_≡_, refl, sym, _∙_, ap}
+use mathlib.Core.Logic.{_⊎_, inl, inr}
 use mathlib.Core.Bool.{Bool, true, false, not, cond, _&&_, _||_}
 use mathlib.Core.List.{List, [], _∷_, _++_, map, append-assoc, append-nil}
 use Prim.Native.Nat.{ℕ, suc, _<_, _≤_}
@@ -13,19 +14,15 @@ use Rattle.std.specs.declared.option.Option.{Option}
 use Rattle.std.specs.declared.option.Option.the-variants.{Some, None}
 use Rattle.std.specs.shelf.Text.{sameBytes}
 use Rattle.std.proofs.shelf.Equals.{sameBytes-decides}
-use Rattle.std.proofs.shelf.Tests.{and-parts, and-from, not-true, not-from-false, false≢true, true≢false}
+use Rattle.std.proofs.shelf.Tests.{and-parts, and-from, or-cases, not-true, not-from-false, false≢true, true≢false}
 use Rattle.names.specs.Names.{Name, every}
 use Rattle.names.specs.Keys.{segment, segment-byte, key, parts, path, before, not-slash, Splits}
 use Rattle.names.proofs.Every.{every-append}
 use Rattle.names.proofs.Keys.{parts-last, parts-cut, path-parts}
 use Rattle.host.specs.Paths.{and-then, without-last, parent, stepped, walked, relative}
-use Rattle.host.specs.FileHosts.{directory}
+use Rattle.host.specs.FileHosts.{directory, ordinary, Begins, Steps, Walks}
 use Rattle.host.proofs.Backwards.{parts-some}
-use Rattle.host.proofs.Walks.{never, walked-append, stepped-in, parent-some}
-
--- neither empty nor `.` nor `..`
-abbrev pub ordinary : Name → Bool
-ordinary x = not (sameBytes x []) && (not (sameBytes x (codes ".")) && not (sameBytes x (codes "..")))
+use Rattle.host.proofs.Walks.{never, then-some, walked-append, stepped-in, parent-some, parent-push}
 
 abbrev pub slashless : Name → Bool
 slashless x = every not-slash x
@@ -103,6 +100,43 @@ relative-more x (y ∷ ys) h = refl
 pub relative-split : (p x : Name) (o : Option Name) → Splits p x o → isSome o ≡ true → relative (parts p) ≡ (sameBytes x (codes ".") || sameBytes x (codes ".."))
 relative-split p x None s e = absurd (false≢true e)
 relative-split p x (Some more) s e = ap relative (s .0) ∙ relative-more x (parts more) (parts-some more)
+
+-- what relative tells of the bytes
+pub relative-begins : (x : Name) → relative (parts x) ≡ true → Begins x
+relative-begins x h = by (parts x) (path-parts x) h
+  where
+    by : (l : List Name) → path l ≡ x → relative l ≡ true → Begins x
+    by [] e h = absurd (false≢true h)
+    by (a ∷ []) e h = absurd (false≢true h)
+    by (a ∷ (b ∷ l)) e h = which (or-cases (sameBytes a (codes ".")) (sameBytes a (codes "..")) h)
+      where
+        which : (sameBytes a (codes ".") ≡ true) ⊎ (sameBytes a (codes "..") ≡ true) → Begins x
+        which (inl t) = inl (path (b ∷ l), sym e ∙ ap (λ q. q ++ (47 ∷ path (b ∷ l))) (sameBytes-decides a (codes ".") .0 t))
+        which (inr t) = inr (path (b ∷ l), sym e ∙ ap (λ q. q ++ (47 ∷ path (b ∷ l))) (sameBytes-decides a (codes "..") .0 t))
+
+pub begins-relative : (x : Name) → Begins x → relative (parts x) ≡ true
+begins-relative x (inl (rest, e)) = ap (λ q. relative (parts q)) e ∙ ap relative (parts-cut (codes ".") rest refl) ∙ relative-more (codes ".") (parts rest) (parts-some rest)
+begins-relative x (inr (rest, e)) = ap (λ q. relative (parts q)) e ∙ ap relative (parts-cut (codes "..") rest refl) ∙ relative-more (codes "..") (parts rest) (parts-some rest)
+
+-- a step by the relation, and by the definition
+steps-so : (p q : List Name) (x : Name) → Steps p x q → stepped p x ≡ Some q
+steps-so p q x (inl (e, f)) = ap (stepped p) e ∙ ap Some (sym f)
+steps-so p q x (inr (inl (e, (y, f)))) = ap (stepped p) e ∙ ap parent f ∙ parent-push q y
+steps-so p q x (inr (inr (h, f))) = stepped-ordinary x h p ∙ ap Some (sym f)
+
+so-steps : (p q : List Name) (x : Name) (s t u : Bool) → sameBytes x [] ≡ s → sameBytes x (codes ".") ≡ t → sameBytes x (codes "..") ≡ u → cond s None (cond t (Some p) (cond u (parent p) (Some (p ++ (x ∷ []))))) ≡ Some q → Steps p x q
+so-steps p q x true t u hs ht hu e = never e
+so-steps p q x false true u hs ht hu e = let z : q ≡ p = cc in inl (sameBytes-decides x (codes ".") .0 ht, z)
+so-steps p q x false false true hs ht hu e = inr (inl (sameBytes-decides x (codes "..") .0 hu, parent-some p q e))
+so-steps p q x false false false hs ht hu e = let z : q ≡ p ++ (x ∷ []) = cc in inr (inr (and-from _ _ (not-from-false _ hs) (and-from _ _ (not-from-false _ ht) (not-from-false _ hu)), z))
+
+pub walks-so : (xs p r : List Name) → Walks p xs r → walked p xs ≡ Some r
+walks-so [] p r e = ap Some (sym e)
+walks-so (x ∷ xs) p r (q, s, w) = ap (λ o. and-then o (λ l. walked l xs)) (steps-so p q x s) ∙ walks-so xs q r w
+
+pub so-walks : (xs p r : List Name) → walked p xs ≡ Some r → Walks p xs r
+so-walks [] p r e = let z : r ≡ p = cc in z
+so-walks (x ∷ xs) p r e = let (q, f, g) = then-some (stepped p x) (λ l. walked l xs) r e in (q, so-steps p q x _ _ _ refl refl refl f, so-walks xs q r g)
 
 pub not-relative : (p x : Name) (o : Option Name) → Splits p x o → isSome o ≡ false → false ≡ relative (parts p)
 not-relative p x None s e = sym (ap relative (s .0))

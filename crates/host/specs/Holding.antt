@@ -7,6 +7,7 @@ use Prim.Native.Nat.{ℕ, suc}
 use lib.Dec.{leb}
 use lib.ListN.{length}
 use denote.Ref.{RefT}
+use Rattle.std.specs.Finite.{nth}
 use Rattle.std.specs.Options.{mapped}
 use Rattle.std.specs.declared.option.Option.{Option}
 use Rattle.std.specs.declared.option.Option.the-variants.{Some, None}
@@ -59,3 +60,7 @@ Holds ks held = (held ≡ ks) × (holdable ks ≡ true)
 -- and are else refused at the number of the first that is misplaced, or there is no memory
 abbrev pub Refuses-keys : List Name → Denial → Type 0
 Refuses-keys ks d = (d ≡ memory-denial) ⊎ ((n : ℕ) × (d ≡ refused-at n) × First-misplaced ks n)
+
+-- each key given has its number as its place
+abbrev pub Each-key-has-its-number-as-its-place : List Name → (Name → Option ℕ) → Type 0
+Each-key-has-its-number-as-its-place ks seek = (n : ℕ) (k : Name) → nth ks n ≡ Some k → seek k ≡ Some n

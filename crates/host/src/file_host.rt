@@ -7,8 +7,8 @@ ghost use Rattle.std.specs.Vec.{made};
 ghost use Rattle.names.specs.Keys.{key, parts};
 ghost use Rattle.names.specs.Names.{every};
 ghost use Rattle.host.specs.Paths.{relative};
-ghost use Rattle.host.specs.Holding.{all-now, holdable, Holds, Refuses-keys};
-ghost use Rattle.host.specs.FileHosts.{led-to, file-hosting, Plain-specifiers-lead-down, Ways-between-held-keys-are-found};
+ghost use Rattle.host.specs.Holding.{all-now, holdable, Holds, Refuses-keys, Each-key-has-its-number-as-its-place};
+ghost use Rattle.host.specs.FileHosts.{led-to, file-hosting, Follows-paths, Plain-specifiers-lead-down, Ways-between-held-keys-are-found};
 ghost use Rattle.host.specs.Lawful.{file-hosting-lawful};
 use crate::places::hold;
 use crate::places::key_at;
@@ -57,6 +57,8 @@ pub struct FileHost<'a> {
 impl<'a> FileHost<'a> {
     pub fn new(heap: Global, keys: &[&'a [u8]]) -> Result<FileHost<'a>, Denial>
         ensures makes { λ r. ⌜ Cases r (λ h. Holds (all-now (now (keys .entry))) (all-now (vec-items (h .keys)))) (Refuses-keys (all-now (now (keys .entry)))) ⌝ }
+        ensures places { λ r. ⌜ made r (λ h. Each-key-has-its-number-as-its-place (all-now (now (keys .entry))) (file-hosting (all-now (vec-items (h .keys))) .seek)) ⌝ }
+        ensures follows { λ r. ⌜ made r (λ h. Follows-paths (file-hosting (all-now (vec-items (h .keys))))) ⌝ }
         ensures plain { λ r. ⌜ made r (λ h. Plain-specifiers-lead-down (file-hosting (all-now (vec-items (h .keys))))) ⌝ }
         ensures ways { λ r. ⌜ made r (λ h. Ways-between-held-keys-are-found (file-hosting (all-now (vec-items (h .keys))))) ⌝ }
     {
