@@ -6,3 +6,4 @@ pub mod Numbered
 pub mod Leading
 pub mod Following
 pub mod Mapping
+pub mod Targets

@@ -2,7 +2,7 @@
 use mathlib.Core.Path.{_≡_}
 use mathlib.Core.Logic.{_⊎_}
 use mathlib.Core.Bool.{Bool, true, not, cond, _&&_, _||_}
-use mathlib.Core.List.{List, [], _∷_, _++_, map}
+use mathlib.Core.List.{List, [], _∷_, _++_, map, List·Memᴰ}
 use Prim.Native.Nat.{ℕ}
 use lib.Dec.{leb}
 use lib.ListN.{length}
@@ -52,6 +52,22 @@ mapped-to ks rows j x = placed ks (joined-all sameBytes (map (says j x) rows))
 -- the host of these keys and rows
 abbrev pub mapped-hosting : List Name → List Row → Hosting
 mapped-hosting ks rows = record { seek = place-of ks; follow = λ m x. and-then (nth ks m) (λ j. mapped-to ks rows j x) }
+
+abbrev pub row-of : Name → Name → Name → Row
+row-of j x t = record { referrer = j; specifier = x; target = t }
+
+-- of a referrer and a specifier the rows say one target, which is held at a place
+pub record One-target-at (h : Hosting) (rows : List Row) (j x : Name) (n : ℕ) : Type 0 where
+  pub target : Name
+  pub said : List·Memᴰ (row-of j x target) rows
+  pub only : (t : Name) → List·Memᴰ (row-of j x t) rows → t ≡ target
+  pub held : h .seek target ≡ Some n
+
+-- follow answers exactly the places of such targets, and none at a place without a key
+pub record Follows-rows (rows : List Row) (h : Hosting) : Type 0 where
+  pub answers : (j : Name) (m : ℕ) → h .seek j ≡ Some m → (x : Name) (n : ℕ) → h .follow m x ≡ Some n → One-target-at h rows j x n
+  pub answered : (j : Name) (m : ℕ) → h .seek j ≡ Some m → (x : Name) (n : ℕ) → One-target-at h rows j x n → h .follow m x ≡ Some n
+  pub without-referrer : (m : ℕ) → ((j : Name) → ¬ (h .seek j ≡ Some m)) → (x : Name) → h .follow m x ≡ None
 
 -- only which rows there are counts
 abbrev pub Order-of-rows-and-rows-written-twice-do-not-affect-an-answer : List Name → List Row → Type 0

@@ -4,8 +4,8 @@ ghost use mathlib.Core.Bool.{true};
 ghost use Rattle.std.specs.Of.Vec.{vec-items};
 ghost use Rattle.std.specs.Results.{Cases};
 ghost use Rattle.std.specs.Vec.{made};
-ghost use Rattle.host.specs.Holding.{all-now, holdable};
-ghost use Rattle.host.specs.MappedHosts.{plain-all, mapped-hosting, Maps, Refuses-to-map, Order-of-rows-and-rows-written-twice-do-not-affect-an-answer};
+ghost use Rattle.host.specs.Holding.{all-now, holdable, Each-key-has-its-number-as-its-place};
+ghost use Rattle.host.specs.MappedHosts.{plain-all, mapped-hosting, Maps, Refuses-to-map, Follows-rows, Order-of-rows-and-rows-written-twice-do-not-affect-an-answer};
 ghost use Rattle.host.specs.Lawful.{mapped-hosting-lawful};
 use crate::places::hold;
 use crate::places::key_at;
@@ -31,6 +31,8 @@ pub struct MappedHost<'a> {
 impl<'a> MappedHost<'a> {
     pub fn new(heap: Global, keys: &[&'a [u8]], rows: &[Row<'a>]) -> Result<MappedHost<'a>, Denial>
         ensures makes { λ r. ⌜ Cases r (λ h. Maps (all-now (now (keys .entry))) (plain-all (now (rows .entry))) (all-now (vec-items (h .keys))) (plain-all (vec-items (h .rows)))) (Refuses-to-map (all-now (now (keys .entry))) (plain-all (now (rows .entry)))) ⌝ }
+        ensures places { λ r. ⌜ made r (λ h. Each-key-has-its-number-as-its-place (all-now (now (keys .entry))) (mapped-hosting (all-now (vec-items (h .keys))) (plain-all (vec-items (h .rows))) .seek)) ⌝ }
+        ensures follows { λ r. ⌜ made r (λ h. Follows-rows (plain-all (now (rows .entry))) (mapped-hosting (all-now (vec-items (h .keys))) (plain-all (vec-items (h .rows))))) ⌝ }
         ensures order { λ r. ⌜ made r (λ h. Order-of-rows-and-rows-written-twice-do-not-affect-an-answer (all-now (vec-items (h .keys))) (plain-all (vec-items (h .rows)))) ⌝ }
     {
         let keys = hold(heap, keys)?;
