@@ -13,6 +13,9 @@ use record::Denial;
 use record::DenialFromAlloc;
 use std::alloc::Global;
 
+// A host holds at most so many keys.
+const MAX_KEYS: usize = 32;
+
 // The place of a key among these, if it is one of them.
 pub(crate) fn place_of(keys: &[&[u8]], key: &[u8]) -> Option<usize>
     ensures { λ r. ⌜ r ≡ place-of (all-now (now (keys .entry))) (now (key .entry)) ⌝ }
@@ -40,7 +43,7 @@ pub(crate) fn key_at<'a>(keys: &[&'a [u8]], place: usize) -> Option<&'a [u8]>
 fn is_misplaced(before: &[&[u8]], name: &[u8]) -> bool
     ensures { λ r. ⌜ r ≡ misplaced (all-now (now (before .entry))) (now (name .entry)) ⌝ }
 {
-    if before.len() >= 32 {
+    if before.len() >= MAX_KEYS {
         return true;
     }
     if !is_key(name) {

@@ -13,6 +13,9 @@ use outcome::KeySame;
 use outcome::Outcome;
 use outcome::join;
 
+// A mapped host has at most so many rows.
+const MAX_ROWS: usize = 64;
+
 fn is_good(row: &Row<'_>) -> bool
     ensures { λ r. ⌜ r ≡ good-row (plain (now (row .entry))) ⌝ }
 {
@@ -24,7 +27,7 @@ pub(crate) fn first_bad_row(rows: &[Row<'_>]) -> Option<usize>
     ensures { λ r. ⌜ Cases r (good-rows (plain-all (now (rows .entry))) ≡ true) (First-bad-row (plain-all (now (rows .entry)))) ⌝ }
 {
     for (i, row) in rows.iter().enumerate() {
-        if i >= 64 {
+        if i >= MAX_ROWS {
             return Some(i);
         }
         if !is_good(row) {

@@ -18,15 +18,17 @@ fn refused_at(r: Result<FileHost<'_>, Denial>) -> Option<usize> {
     }
 }
 
-#[test]
-fn keys_are_sought(rt: LibcRuntime) -> Result<(), Fail> {
-    let keys: [&[u8]; 2] = [b"a/b", b"c"];
-    let Ok(host) = FileHost::new(rt.alloc(), &keys) else {
-        return Err(Fail::new("not made"));
-    };
-    check_eq(host.seek(b"a/b"), Some(0))?;
-    check_eq(host.seek(b"c"), Some(1))?;
-    check_eq(host.seek(b"a"), None)
+// Each of these specifiers leads from this place to this answer.
+fn all_lead(
+    host: &FileHost<'_>,
+    place: usize,
+    specifiers: &[&[u8]],
+    answer: Option<usize>,
+) -> Result<(), Fail> {
+    for s in specifiers {
+        check_eq(host.follow(place, s), answer)?;
+    }
+    Ok(())
 }
 
 #[test]
@@ -35,11 +37,18 @@ fn paths_are_followed(rt: LibcRuntime) -> Result<(), Fail> {
     let Ok(host) = FileHost::new(rt.alloc(), &keys) else {
         return Err(Fail::new("not made"));
     };
-    check_eq(host.follow(0, b"./c/d"), Some(1))?;
-    check_eq(host.follow(0, b"./."), Some(2))?;
-    check_eq(host.follow(1, b"../b"), Some(0))?;
-    check_eq(host.follow(1, b"./../../e"), Some(3))?;
-    check_eq(host.follow(1, b"./x/.././../c/./d"), Some(1))
+    check_eq(host.seek(b"a/c/d"), Some(1))?;
+    check_eq(host.seek(b"a/c"), None)?;
+    all_lead(&host, 0, &[b"./c/d", b"../a/c/d"], Some(1))?;
+    all_lead(&host, 0, &[b"./.", b"./c/..", b"../a"], Some(2))?;
+    all_lead(&host, 1, &[b"../b", b"./x/.././../b"], Some(0))?;
+    all_lead(&host, 1, &[b"../../e", b"./../../e"], Some(3))?;
+    all_lead(
+        &host,
+        2,
+        &[b"./bbbbbbbbbbbbbbbbbbbbbbbb/bbbbbbbbbbbbbbbbbbbbbbbbbbbbbbbb/bbbbbbbbbbbbbb/../../../e"],
+        Some(3),
+    )
 }
 
 #[test]
@@ -48,38 +57,25 @@ fn other_specifiers_lead_nowhere(rt: LibcRuntime) -> Result<(), Fail> {
     let Ok(host) = FileHost::new(rt.alloc(), &keys) else {
         return Err(Fail::new("not made"));
     };
-    check_eq(host.follow(1, b"./."), None)?;
-    check_eq(host.follow(1, b"./"), None)?;
-    check_eq(host.follow(0, b".."), None)?;
-    check_eq(host.follow(0, b"../.."), None)?;
-    check_eq(host.follow(1, b".//a"), None)?;
-    check_eq(host.follow(1, b"./a/.."), None)?;
-    check_eq(host.follow(0, b"../../a/b"), None)?;
-    check_eq(host.follow(1, b"./E"), None)?;
-    check_eq(host.follow(1, b"e"), None)?;
-    check_eq(host.follow(3, b"./e"), None)
-}
-
-#[test]
-fn a_long_way_is_followed(rt: LibcRuntime) -> Result<(), Fail> {
-    let keys: [&[u8]; 1] = [b"a"];
-    let Ok(host) = FileHost::new(rt.alloc(), &keys) else {
-        return Err(Fail::new("not made"));
-    };
-    check_eq(
-        host.follow(
-            0,
-            b"./bbbbbbbbbbbbbbbbbbbbbbbb/bbbbbbbbbbbbbbbbbbbbbbbbbbbbbbbb/bbbbbbbbbbbbbb/../../../a",
-        ),
-        Some(0),
-    )?;
-    check_eq(
-        host.follow(
-            0,
-            b"./bbbbbbbbbbbbbbbbbbbbbbbb/bbbbbbbbbbbbbbbbbbbbbbbbbbbbbbbb/bbbbbbbbbbbbbb/../../a",
-        ),
+    all_lead(
+        &host,
+        0,
+        &[b"..", b"../..", b"../../a/b", b"/b", b"b"],
         None,
-    )
+    )?;
+    all_lead(
+        &host,
+        1,
+        &[b"./.", b"./", b".//a", b"./a/..", b"./E", b"e"],
+        None,
+    )?;
+    all_lead(
+        &host,
+        1,
+        &[b"./bbbbbbbbbbbbbbbbbbbbbbbb/bbbbbbbbbbbbbbbbbbbbbbbbbbbbbbbb/bbbbbbbbbbbbbb"],
+        None,
+    )?;
+    all_lead(&host, 3, &[b"./e"], None)
 }
 
 #[test]
