@@ -1,4 +1,6 @@
 // Bundles: the modules of a depot, packed into one byte string.
+#![tactic(auto)]
+
 mod entry;
 mod reader;
 mod writer;

@@ -1,4 +1,6 @@
 // Bundles by example: what is read, written and refused at each limit.
+#![tactic(auto)]
+
 #[cfg(test)]
 mod limits;
 #[cfg(test)]

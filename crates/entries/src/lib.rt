@@ -1,4 +1,6 @@
 // Entries written one behind another: what lists and bundles have in common.
+#![tactic(auto)]
+
 mod seen;
 mod stop;
 

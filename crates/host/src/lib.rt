@@ -1,4 +1,6 @@
 // Hosts: where keys and specifiers lead.
+#![tactic(auto)]
+
 mod file_host;
 mod goal;
 mod mapped_host;

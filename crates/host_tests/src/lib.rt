@@ -1,4 +1,6 @@
 // What the file host and the mapped host answer on examples.
+#![tactic(auto)]
+
 #[cfg(test)]
 mod file_tests;
 #[cfg(test)]

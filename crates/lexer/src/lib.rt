@@ -1,4 +1,6 @@
 // Cuts a module's text into tokens that borrow it.
+#![tactic(auto)]
+
 mod token;
 
 pub use token::{Lexeme, Token};

@@ -1,3 +1,5 @@
 // Lists by example.
+#![tactic(auto)]
+
 #[cfg(test)]
 mod tests;

@@ -1,4 +1,6 @@
 // modlink: packs depot modules into bundles, and shows what a bundle holds.
+#![tactic(auto)]
+
 mod inspect;
 mod kind;
 mod pack;

@@ -1,9 +1,9 @@
 -- The parts of a path, and what a key is.
-use Rattle.std.proofs.Common.{◌≡◌, ℕ, ◌+◌, ◌-◌, ◌<◌, ◌≤◌, Bool, true, false, cond, not, ◌&&◌, eqb, leb, ◌⊎◌, List, [], ◌∷◌, ◌++◌, length, get_or, take, drop, Some, None, Decides, Option, sym, refl, ap, ◌∙◌, inl, inr, add-one, arith, length-append}
+use Rattle.std.proofs.Common.{◌≡◌, ℕ, ◌+◌, ◌-◌, ◌<◌, ◌≤◌, Bool, true, false, cond, not, ◌&&◌, eqb, leb, List, [], ◌∷◌, ◌++◌, length, get_or, take, drop, Some, None, Decides, Option, sym, refl, ap, ◌∙◌, add-one, arith, length-append}
 use native.Mathlib.Nat.{sub-zero}
 use lib.Seq.{split_at}
 use Rattle.std.proofs.lemmas.List.{take_rest, take_all}
-use Rattle.std.proofs.lemmas.Bool.{and_parts, and_from, and_left, cases_Bool, true≢false, eqb-true, leb-true, le-leb, not-true}
+use Rattle.std.proofs.lemmas.Bool.{and_parts, and_from, and_left, true≢false, eqb-true, leb-true, le-leb, not-true}
 use Rattle.names.specs.Names.{Name, every}
 use Rattle.names.specs.Keys.{segment_byte, segment, path, Key, before, parts, key, not_slash, Splits}
 

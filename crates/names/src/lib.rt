@@ -1,4 +1,6 @@
 // Names as bytes: words, and keys with their segments.
+#![tactic(auto)]
+
 mod key;
 mod name;
 mod word;

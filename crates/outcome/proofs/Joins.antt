@@ -3,7 +3,7 @@ use Rattle.std.proofs.Common.{◌≡◌, ℕ, suc, Bool, true, false, cond, List
 use mathlib.Core.List.{Memᴰ}
 use Rattle.outcome.specs.declared.Outcome.{Outcome}
 use Rattle.outcome.specs.declared.Outcome.TheVariants.{Nothing, One, Several}
-use Rattle.outcome.specs.Joining.{joined, joined_all, by_value, valued, valued_all, SameMembers, OrderBracketingAndRepetitionDoNotAffectAJoin}
+use Rattle.outcome.specs.Joining.{joined, joined_all, by_value, valued, OrderBracketingAndRepetitionDoNotAffectAJoin}
 
 module _ {A : Type 0} (same : A → A → Bool) (D : (x y : A) → Decides (same x y) (x ≡ y)) where
   pick : A → Bool → Outcome A

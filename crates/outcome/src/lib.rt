@@ -1,4 +1,6 @@
 // An outcome is nothing, one thing, or several; and what outcomes come to when they are joined.
+#![tactic(auto)]
+
 ghost use Rattle.std.specs.Prelude.{◌≡◌, ℕ, Bool, List, Decides};
 ghost use Rattle.std.specs.Str.{bytes_eq};
 ghost use Rattle.std.proofs.lemmas.Slice.Eq.{bytes_eq-Decides};
@@ -58,7 +60,7 @@ impl<'a> Same for &'a [u8] {
 
 // One thing joined with an outcome.
 fn join_one<T: Same + Drop>(x: T, b: Outcome<T>) -> Outcome<T>
-    ensures { result ≡ joined (by_value value same) (Outcome.One x) b }
+    ensures { result ≡ joined (by_value T.value T.same) (Outcome.One x) b }
 {
     match b {
         Outcome::Nothing => Outcome::One(x),
@@ -75,9 +77,9 @@ fn join_one<T: Same + Drop>(x: T, b: Outcome<T>) -> Outcome<T>
 
 // Nothing joined with an outcome is that outcome; equal ones join to it; different ones, or several with anything, give several.
 pub fn join<T: Same + Drop>(a: Outcome<T>, b: Outcome<T>) -> Outcome<T>
-    ensures joins { result ≡ joined (by_value value same) a b }
-    ensures values { valued value result ≡ joined same (valued value a) (valued value b) }
-    ensures laws { OrderBracketingAndRepetitionDoNotAffectAJoin T.Same.same }
+    ensures joins { result ≡ joined (by_value T.value T.same) a b }
+    ensures values { valued T.value result ≡ joined T.same (valued T.value a) (valued T.value b) }
+    ensures laws { OrderBracketingAndRepetitionDoNotAffectAJoin T.same }
 {
     match a {
         Outcome::Nothing => b,
@@ -88,8 +90,8 @@ pub fn join<T: Same + Drop>(a: Outcome<T>, b: Outcome<T>) -> Outcome<T>
 
 // A whole list joined; an empty one gives nothing.
 pub fn join_all<T: Same + Drop>(outcomes: Vec<Outcome<T>>) -> Outcome<T>
-    ensures values { valued value result ≡ joined_all same (valued_all value outcomes.items) }
-    ensures laws { OrderBracketingAndRepetitionDoNotAffectAJoin T.Same.same }
+    ensures values { valued T.value result ≡ joined_all T.same (valued_all T.value outcomes.items) }
+    ensures laws { OrderBracketingAndRepetitionDoNotAffectAJoin T.same }
 {
     let mut all = Outcome::Nothing;
     for o in outcomes {

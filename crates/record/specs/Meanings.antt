@@ -1,5 +1,5 @@
 -- What a host means, and what a record kind means.
-use Rattle.std.specs.Prelude.{◌≡◌, ℕ, ◌<◌, true, List, map, length, Some, None, Ok, Err, Option, Result}
+use Rattle.std.specs.Prelude.{◌≡◌, ℕ, ◌<◌, true, List, length, Some, None, Ok, Err, Option, Result}
 use Rattle.names.specs.Names.{Name}
 use Rattle.names.specs.Keys.{Key}
 use Rattle.record.specs.declared.value.Cell.{Cell}

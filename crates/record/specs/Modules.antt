@@ -1,5 +1,5 @@
 -- What a module record holds, and when it is well formed.
-use Rattle.std.specs.Prelude.{◌≡◌, ℕ, ◌+◌, ◌<◌, ◌≤◌, Bool, true, ◌&&◌, List, [], ◌∷◌, ◌++◌, map, length, nat_le, nat_lt}
+use Rattle.std.specs.Prelude.{ℕ, ◌+◌, Bool, ◌&&◌, List, ◌++◌, map, length, nat_le, nat_lt}
 use Rattle.names.specs.Names.{Name, distinct, every}
 
 -- a specifier, and the byte of its first mention

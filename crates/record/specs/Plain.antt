@@ -1,5 +1,5 @@
 -- Records by what they hold.
-use Rattle.std.specs.Prelude.{ℕ, List, map, Ok, Err, vec_items, Result}
+use Rattle.std.specs.Prelude.{map, Ok, Err, vec_items, Result}
 use Rattle.std.specs.Borrow.{Bor}
 use Rattle.names.specs.Owned.{bytes_of}
 use Rattle.record.specs.declared.denial.LoadFault.{LoadFault}

@@ -1,4 +1,6 @@
 // The smallest host and the smallest record kind, which show that both traits can be met.
+#![tactic(auto)]
+
 mod one_cell;
 mod one_key;
 

@@ -1,4 +1,6 @@
 // A depth-first search for the cycles of a graph, for every graph of 32 nodes and every action.
+#![tactic(auto)]
+
 ghost use Rattle.std.specs.Prelude.{◌≡◌, ℕ, ◌<◌, ◌≤◌, OnOk};
 ghost use mathlib.Core.List.{Memᴰ};
 ghost use Rattle.search.specs.Search.{begin, enter as entered, lower, down_to, close, Finishes, Ends};

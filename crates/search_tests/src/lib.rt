@@ -1,4 +1,6 @@
 // Two walks over a fixed graph, searched.
+#![tactic(auto)]
+
 ghost use Rattle.search_tests.specs.Example.{NestedCyclesArePoppedTogether};
 ghost use Rattle.search_tests.specs.Walks.{EachReachedNodeIsCountedOnce, FailsAt};
 

@@ -11,7 +11,7 @@ returns-in-Nothing g c =
 
 pub returns-in-One : goal.returns-in-One
 returns-in-One g c =
-    let e : c.join-one.result ≡ joined (by_value g.T.Same.value g.T.Same.same) c.args.a c.args.b = search rules in
+    let e : c.join_one.result ≡ joined (by_value g.T.Same.value g.T.Same.same) c.args.a c.args.b = search rules in
     record { joins = e; values = ap (valued g.T.Same.value) e ∙ valued_joined g.T.Same.value g.T.Same.same c.args.a c.args.b; laws = laws g.T.Same.same g.T.Same.decides }
 
 pub returns-in-Several : goal.returns-in-Several

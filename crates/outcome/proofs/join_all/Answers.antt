@@ -1,4 +1,4 @@
-use Rattle.std.proofs.Common.{◌≡◌, List, [], ◌∷◌, ◌++◌, length, vec_items, sym, ap, ◌∙◌, append_assoc}
+use Rattle.std.proofs.Common.{◌≡◌, [], ◌∷◌, ◌++◌, length, vec_items, sym, ap, ◌∙◌, append_assoc}
 use Rattle.std.specs.Vec.Iter.{into_iter_items}
 use Rattle.std.proofs.lemmas.List.{map-append}
 use Rattle.outcome.specs.Joining.{joined, joined_all, valued, valued_all}
@@ -22,5 +22,5 @@ pub returns : goal.returns
 returns g c =
     let rest = into_iter_items c.loop-o.o-iterator in
     let none : length rest ≡ 0 = sym c.loop-o.o-iterator.rest.ok.0 ∙ c.in-None.ensures.steps.0 in
-    let e : c.loop-o.yielded ≡ vec_items c.args.outcomes = come_to_end c.loop-o.yielded rest _ none (c.loop-o.invariant.1 ∙ c.into-iter-o-iterator.ensures.into-iter-gives.0) in
+    let e : c.loop-o.yielded ≡ vec_items c.args.outcomes = come_to_end c.loop-o.yielded rest _ none (c.loop-o.invariant.1 ∙ c.into_iter-o-iterator.ensures.into_iter_gives.0) in
     record { values = c.loop-o.invariant.0 ∙ ap (λ q. joined_all g.T.Same.same (valued_all g.T.Same.value q)) e; laws = laws g.T.Same.same g.T.Same.decides }

@@ -11,4 +11,4 @@ returns-then-bytes-gt-LONGEST c =
     record { reads = h; inverts = inverts s (Err c.malformed.result) h }
 
 pub returns : goal.returns
-returns c = record { reads = c.read-entries.ensures; inverts = inverts c.args.bytes.now (plain_read c.read-entries.result) c.read-entries.ensures }
+returns c = record { reads = c.read_entries.ensures; inverts = inverts c.args.bytes.now (plain_read c.read_entries.result) c.read_entries.ensures }

@@ -10,12 +10,12 @@ use Rattle.bundle.proofs.reader.read_entries.Goals as goal
 
 pub returns-in-default : goal.returns-in-default
 returns-in-default c =
-    let some : ¬ (c.loop-rest.rest.now ≡ []) = λ e. eqb-false (length c.loop-rest.rest.now) 0 (sym c.is-empty.ensures ∙ c.loop-rest-test.true) (ap length e) in
+    let some : ¬ (c.loop-rest.rest.now ≡ []) = λ e. eqb-false (length c.loop-rest.rest.now) 0 (sym c.is_empty.ensures ∙ c.loop-rest-test.true) (ap length e) in
     inr (no_entry c.args.bytes.now _ _ c.loop-rest.invariant.0 c.requires c.malformed.result c.malformed.ensures some c.in-default.ensures)
 
-pub returns-then-is-some : goal.returns-then-is-some
-returns-then-is-some c =
-    inr (no_room c.args.bytes.now _ _ c.loop-rest.invariant.0 c.requires c.malformed-then-is-some.result c.malformed-then-is-some.ensures (plain c.in-Some.entry) c.in-Some.more.now (seen c.loop-rest.seen) c.in-Some.ensures c.loop-rest.invariant.1 (ap is_some (sym c.refusal.ensures) ∙ sym c.is-some.ensures ∙ c.if-is-some.true))
+pub returns-then-is_some : goal.returns-then-is_some
+returns-then-is_some c =
+    inr (no_room c.args.bytes.now _ _ c.loop-rest.invariant.0 c.requires c.malformed-then-is_some.result c.malformed-then-is_some.ensures (plain c.in-Some.entry) c.in-Some.more.now (seen c.loop-rest.seen) c.in-Some.ensures c.loop-rest.invariant.1 (ap is_some (sym c.refusal.ensures) ∙ sym c.is_some.ensures ∙ c.if-is_some.true))
 
 pub loop-rest-smaller : goal.loop-rest-smaller
 loop-rest-smaller c = rest_shrinks c.loop-rest.rest.now (plain c.in-Some.entry) c.in-Some.more.now c.in-Some.ensures
@@ -26,7 +26,7 @@ loop-rest-preserved c =
     let x = plain c.in-Some.entry in
     let items = chosen _ _ _ _ c.push.ensures.items (ap is_ok c.in-ok-push.was) in
     let pushed : plain_all (vec_items c.push.new.self) ≡ before ++ (x ∷ []) = ap plain_all items ∙ map-append plain (vec_items c.loop-rest.entries) (c.in-Some.entry ∷ []) in
-    let front = one_more c.args.bytes.now before _ c.loop-rest.invariant.0 x c.in-Some.more.now (seen c.loop-rest.seen) c.in-Some.ensures c.loop-rest.invariant.1 (ap is_some (sym c.refusal.ensures) ∙ sym c.is-some.ensures ∙ c.if-is-some.false) in
+    let front = one_more c.args.bytes.now before _ c.loop-rest.invariant.0 x c.in-Some.more.now (seen c.loop-rest.seen) c.in-Some.ensures c.loop-rest.invariant.1 (ap is_some (sym c.refusal.ensures) ∙ sym c.is_some.ensures ∙ c.if-is_some.false) in
     let less = rest_shrinks c.loop-rest.rest.now x c.in-Some.more.now c.in-Some.ensures in
     let names : seen c.add.new.self ≡ map (λ e. e.key) (plain_all (vec_items c.push.new.self)) =
     c.in-ok-add.ensures ∙ ap (λ ns. ns ++ (x.key ∷ [])) c.loop-rest.invariant.1 ∙ sym (map-append (λ e. e.key) before (x ∷ [])) ∙ ap (map (λ e. e.key)) (sym pushed) in (
@@ -36,4 +36,4 @@ loop-rest-preserved c =
     )
 
 pub returns : goal.returns
-returns c = all_read c.args.bytes.now _ _ c.loop-rest.invariant.0 (eqb-true (length c.loop-rest.rest.now) 0 (sym c.is-empty.ensures ∙ c.loop-rest-test.false)) c.requires
+returns c = all_read c.args.bytes.now _ _ c.loop-rest.invariant.0 (eqb-true (length c.loop-rest.rest.now) 0 (sym c.is_empty.ensures ∙ c.loop-rest-test.false)) c.requires

@@ -7,20 +7,20 @@ use Rattle.bundle.specs.Bundles.{malformed_at}
 use Rattle.bundle.proofs.Writing.{unwritable_at, refused_place, well_more, names_more, written_more}
 use Rattle.bundle.proofs.writer.write_entries.Goals as goal
 
-pub returns-then-not-is-well-formed : goal.returns-then-not-is-well-formed
-returns-then-not-is-well-formed c =
+pub returns-then-not-is_well_formed : goal.returns-then-not-is_well_formed
+returns-then-not-is_well_formed c =
     let inv = c.loop-e.invariant in
     let at = c.malformed.ensures ∙ ap malformed_at (c.len.ensures ∙ c.loop-e.out.ok.0) in
-    inr (unwritable_at c.args.entries.now c.loop-e.e-index _ c.loop-e-test.true inv.2 (vec_items c.loop-e.out) c.malformed.result inv.0 at c.requires (inl (sym c.is-well-formed.ensures ∙ c.if-not-is-well-formed.true)))
+    inr (unwritable_at c.args.entries.now c.loop-e.e-index _ c.loop-e-test.true inv.2 (vec_items c.loop-e.out) c.malformed.result inv.0 at c.requires (inl (sym c.is_well_formed.ensures ∙ c.if-not-is_well_formed.true)))
 
-pub returns-then-is-some : goal.returns-then-is-some
-returns-then-is-some c =
+pub returns-then-is_some : goal.returns-then-is_some
+returns-then-is_some c =
     let inv = c.loop-e.invariant in
     let l = c.args.entries.now in
     let i = c.loop-e.e-index in
-    let at = c.malformed-then-is-some.ensures ∙ ap malformed_at (c.len-then-is-some.ensures ∙ c.loop-e.out.ok.0) in
-    inr (unwritable_at l i _ c.loop-e-test.true inv.2 (vec_items c.loop-e.out) c.malformed-then-is-some.result inv.0 at c.requires
-    (refused_place l i _ c.loop-e-test.true inv.2 (seen c.loop-e.seen) inv.1 (ap is_some (sym c.refusal.ensures) ∙ sym c.is-some.ensures ∙ c.if-is-some.true)))
+    let at = c.malformed-then-is_some.ensures ∙ ap malformed_at (c.len-then-is_some.ensures ∙ c.loop-e.out.ok.0) in
+    inr (unwritable_at l i _ c.loop-e-test.true inv.2 (vec_items c.loop-e.out) c.malformed-then-is_some.result inv.0 at c.requires
+    (refused_place l i _ c.loop-e-test.true inv.2 (seen c.loop-e.seen) inv.1 (ap is_some (sym c.refusal.ensures) ∙ sym c.is_some.ensures ∙ c.if-is_some.true)))
 
 pub loop-e-preserved : goal.loop-e-preserved
 loop-e-preserved c =
@@ -29,7 +29,7 @@ loop-e-preserved c =
     let i = c.loop-e.e-index in (
       written_more l i _ c.loop-e-test.true (vec_items c.loop-e.out) (vec_items c.append.new.out) inv.0 c.in-ok-append.ensures,
       names_more l i _ c.loop-e-test.true inv.2 (seen c.loop-e.seen) inv.1 (seen c.add.new.self) c.in-ok-add.ensures,
-      well_more l i _ c.loop-e-test.true inv.2 (seen c.loop-e.seen) inv.1 (sym c.is-well-formed.ensures ∙ c.if-not-is-well-formed.false) (ap is_some (sym c.refusal.ensures) ∙ sym c.is-some.ensures ∙ c.if-is-some.false),
+      well_more l i _ c.loop-e-test.true inv.2 (seen c.loop-e.seen) inv.1 (sym c.is_well_formed.ensures ∙ c.if-not-is_well_formed.false) (ap is_some (sym c.refusal.ensures) ∙ sym c.is_some.ensures ∙ c.if-is_some.false),
     )
 
 pub returns : goal.returns

@@ -6,13 +6,13 @@ use Rattle.host.proofs.Backwards.{still_some}
 use Rattle.host.proofs.Leading.{relative_split, not_relative}
 use Rattle.host.proofs.file_host.is_relative.Goals as goal
 
-pub returns-then-same-name : goal.returns-then-same-name
-returns-then-same-name c =
-    let o = c.split-segment.result.1 in
-    c.if-same-name.true ∙ sym (relative_split c.args.specifier.now _ (option_map (λ x. x.now) o) c.split-segment.ensures (still_some (λ x. x.now) o ∙ c.if-is-none.ensures) ∙ or_left _ _ (sym c.if-same-name.ensures))
+pub returns-then-same_name : goal.returns-then-same_name
+returns-then-same_name c =
+    let o = c.split_segment.result.1 in
+    c.if-same_name.true ∙ sym (relative_split c.args.specifier.now _ (option_map (λ x. x.now) o) c.split_segment.ensures (still_some (λ x. x.now) o ∙ c.if-is_none.ensures) ∙ or_left _ _ (sym c.if-same_name.ensures))
 
-pub returns-else-same-name : goal.returns-else-same-name
-returns-else-same-name c =
-    let o = c.split-segment.result.1 in
-    let x = c.split-segment.result.0.now in
-    c.same-name-else-same-name.ensures ∙ sym (relative_split c.args.specifier.now _ (option_map (λ x. x.now) o) c.split-segment.ensures (still_some (λ x. x.now) o ∙ c.if-is-none.ensures) ∙ ap (λ t. t || bytes_eq x (codes "..")) (sym c.if-same-name.ensures))
+pub returns-else-same_name : goal.returns-else-same_name
+returns-else-same_name c =
+    let o = c.split_segment.result.1 in
+    let x = c.split_segment.result.0.now in
+    c.same_name-else-same_name.ensures ∙ sym (relative_split c.args.specifier.now _ (option_map (λ x. x.now) o) c.split_segment.ensures (still_some (λ x. x.now) o ∙ c.if-is_none.ensures) ∙ ap (λ t. t || bytes_eq x (codes "..")) (sym c.if-same_name.ensures))

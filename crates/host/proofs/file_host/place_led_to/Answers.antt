@@ -17,7 +17,7 @@ returns-then-leads c =
     let d : Bor (List ℕ) = record { ref_ptr = (0, 0); now = [] } in
     let told = tells c.args.referrer.now c.args.specifier.now _ c.leads.result c.requires.1 (held_key rs i d c.requires.0 c.loop-i-test.true) c.leads.ensures in
     found (λ (k : Bor (List ℕ)). led o k.now) rs i d c.loop-i.invariant c.loop-i-test.true (sym told ∙ c.if-leads.true)
-    ∙ first_map (λ x. x.now) (led o) rs ∙ led_place (all_now rs) o ∙ sym (cond-true _ _ _ (sym c.is-relative.ensures ∙ c.if-not-is-relative.false))
+    ∙ first_map (λ x. x.now) (led o) rs ∙ led_place (all_now rs) o ∙ sym (cond-true _ _ _ (sym c.is_relative.ensures ∙ c.if-not-is_relative.false))
 
 pub loop-i-preserved : goal.loop-i-preserved
 loop-i-preserved c =
@@ -33,4 +33,4 @@ returns c =
     let o = walked (directory c.args.referrer.now) (parts c.args.specifier.now) in
     let rs = c.args.keys.now in
     found_nowhere (λ (k : Bor (List ℕ)). led o k.now) rs c.loop-i.i c.loop-i.invariant c.loop-i-test.false
-    ∙ first_map (λ x. x.now) (led o) rs ∙ led_place (all_now rs) o ∙ sym (cond-true _ _ _ (sym c.is-relative.ensures ∙ c.if-not-is-relative.false))
+    ∙ first_map (λ x. x.now) (led o) rs ∙ led_place (all_now rs) o ∙ sym (cond-true _ _ _ (sym c.is_relative.ensures ∙ c.if-not-is_relative.false))

@@ -8,16 +8,16 @@ use Rattle.host.proofs.rows.first_bad_row.Goals as goal
 none : code.Row
 none = let r : Bor (List ℕ) = record { ref_ptr = (0, 0); now = [] } in record { referrer = r; specifier = r; target = r }
 
-pub returns-then-i-ge-MAX-ROWS : goal.returns-then-i-ge-MAX-ROWS
-returns-then-i-ge-MAX-ROWS c = a_65th c.args.rows.now c.loop-i.i none c.loop-i-test.true c.loop-i.invariant c.if-i-ge-MAX-ROWS.true
+pub returns-then-i-ge-MAX_ROWS : goal.returns-then-i-ge-MAX_ROWS
+returns-then-i-ge-MAX_ROWS c = a_65th c.args.rows.now c.loop-i.i none c.loop-i-test.true c.loop-i.invariant c.if-i-ge-MAX_ROWS.true
 
-pub returns-then-not-is-good : goal.returns-then-not-is-good
+pub returns-then-not-is_good : goal.returns-then-not-is_good
 unfolding none
-returns-then-not-is-good c = malformed c.args.rows.now c.loop-i.i none c.loop-i-test.true c.loop-i.invariant (sym c.if-not-is-good.ensures)
+returns-then-not-is_good c = malformed c.args.rows.now c.loop-i.i none c.loop-i-test.true c.loop-i.invariant (sym c.if-not-is_good.ensures)
 
 pub loop-i-preserved : goal.loop-i-preserved
 unfolding none
-loop-i-preserved c = good_more c.args.rows.now c.loop-i.i none c.loop-i-test.true c.loop-i.invariant c.if-i-ge-MAX-ROWS.false (sym c.if-not-is-good.ensures)
+loop-i-preserved c = good_more c.args.rows.now c.loop-i.i none c.loop-i-test.true c.loop-i.invariant c.if-i-ge-MAX_ROWS.false (sym c.if-not-is_good.ensures)
 
 pub returns : goal.returns
 returns c = ap (λ r. good_rows (plain_all r)) (sym (take_all c.loop-i.i c.args.rows.now c.loop-i-test.false)) ∙ c.loop-i.invariant

@@ -13,7 +13,7 @@ none = let r : Bor (List ℕ) = record { ref_ptr = (0, 0); now = [] } in record 
 pub loop-row-preserved : goal.loop-row-preserved
 unfolding none
 loop-row-preserved c =
-    said_more c.args.rows.now c.loop-row.row-index none c.loop-row-test.true c.args.referrer.now c.args.specifier.now (valued (λ x. x.now) c.loop-row.all) (valued (λ x. x.now) c.said-by.result) (valued (λ x. x.now) c.join-all.result) c.loop-row.invariant c.said-by.ensures c.join-all.ensures.values
+    said_more c.args.rows.now c.loop-row.row-index none c.loop-row-test.true c.args.referrer.now c.args.specifier.now (valued (λ x. x.now) c.loop-row.all) (valued (λ x. x.now) c.said_by.result) (valued (λ x. x.now) c.join-all.result) c.loop-row.invariant c.said_by.ensures c.join-all.ensures.values
 
 pub returns : goal.returns
 returns c =

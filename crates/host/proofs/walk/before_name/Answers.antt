@@ -14,20 +14,20 @@ returns-then-goal-gt0 c = record {
   size = omega arith;
 }
 
-pub returns-then-not-same-name : goal.returns-then-not-same-name
-returns-then-not-same-name c =
-    let path = ap (λ o. segments (option_map (λ x. x.now) o)) c.in-ok-goal.was ∙ splits_segments c.in-ok-goal.field-0.now _ _ c.split-last.ensures in
+pub returns-then-not-same_name : goal.returns-then-not-same_name
+returns-then-not-same_name c =
+    let path = ap (λ o. segments (option_map (λ x. x.now) o)) c.in-ok-goal.was ∙ splits_segments c.in-ok-goal.field-0.now _ _ c.split_last.ensures in
     record {
-      back = back_other (aim c.args.goal) c.args.goal.extra c.args.name.now c.requires.0 c.requires.1 c.requires.2 (segments (option_map (λ x. x.now) c.split-last.result.0)) c.split-last.result.1.now (omega arith) path
-          (λ e. both_ways _ (sym c.if-not-same-name.ensures) ((bytes_eq-Decides _ _).1 e));
+      back = back_other (aim c.args.goal) c.args.goal.extra c.args.name.now c.requires.0 c.requires.1 c.requires.2 (segments (option_map (λ x. x.now) c.split_last.result.0)) c.split_last.result.1.now (omega arith) path
+          (λ e. both_ways _ (sym c.if-not-same_name.ensures) ((bytes_eq-Decides _ _).1 e));
       size = tt;
     }
 
 pub returns : goal.returns
 returns c =
-    let path = ap (λ o. segments (option_map (λ x. x.now) o)) c.in-ok-goal.was ∙ splits_segments c.in-ok-goal.field-0.now _ _ c.split-last.ensures in
-    let same : c.split-last.result.1.now ≡ c.args.name.now = (bytes_eq-Decides _ _).0 (sym c.if-not-same-name.ensures) in
-    let front = segments (option_map (λ x. x.now) c.split-last.result.0) in
+    let path = ap (λ o. segments (option_map (λ x. x.now) o)) c.in-ok-goal.was ∙ splits_segments c.in-ok-goal.field-0.now _ _ c.split_last.ensures in
+    let same : c.split_last.result.1.now ≡ c.args.name.now = (bytes_eq-Decides _ _).0 (sym c.if-not-same_name.ensures) in
+    let front = segments (option_map (λ x. x.now) c.split_last.result.0) in
     record {
       back = back_kept (aim c.args.goal) c.args.goal.extra c.args.name.now c.requires.0 c.requires.1 c.requires.2 front (omega arith) (path ∙ ap (λ x. front ++ (x ∷ [])) same);
       size = omega arith;

@@ -4,17 +4,17 @@ use Rattle.host.specs.Goals.{aim}
 use Rattle.host.proofs.Walks.{back_empty, back_here, back_out}
 use Rattle.host.proofs.walk.before_part.Goals as goal
 
-pub returns-then-same-name-2 : goal.returns-then-same-name-2
-returns-then-same-name-2 c = record {
-  back = back_here (aim c.args.goal) c.args.goal.extra c.args.part.now (sym c.same-name.ensures ∙ c.if-same-name.false) (sym c.same-name-else-same-name.ensures ∙ c.if-same-name-2.true);
+pub returns-then-same_name-2 : goal.returns-then-same_name-2
+returns-then-same_name-2 c = record {
+  back = back_here (aim c.args.goal) c.args.goal.extra c.args.part.now (sym c.same_name.ensures ∙ c.if-same_name.false) (sym c.same_name-else-same_name.ensures ∙ c.if-same_name-2.true);
   size = omega arith;
 }
 
-pub returns-then-same-name-3 : goal.returns-then-same-name-3
-returns-then-same-name-3 c =
-    let e = sym c.same-name-else-same-name-2.ensures ∙ c.if-same-name-3.true in
+pub returns-then-same_name-3 : goal.returns-then-same_name-3
+returns-then-same_name-3 c =
+    let e = sym c.same_name-else-same_name-2.ensures ∙ c.if-same_name-3.true in
     let n = ap length ((bytes_eq-Decides c.args.part.now _).0 e) in
     record {
-      back = back_out (aim c.args.goal) c.args.goal.extra c.args.part.now (sym c.same-name.ensures ∙ c.if-same-name.false) (sym c.same-name-else-same-name.ensures ∙ c.if-same-name-2.false) e;
+      back = back_out (aim c.args.goal) c.args.goal.extra c.args.part.now (sym c.same_name.ensures ∙ c.if-same_name.false) (sym c.same_name-else-same_name.ensures ∙ c.if-same_name-2.false) e;
       size = omega arith;
     }

@@ -16,25 +16,25 @@ pub returns-in-default-directory : goal.returns-in-default-directory
 returns-in-default-directory c =
     let ys = parts c.args.specifier.now in
     let start : Goal = record { path = Some c.args.target; extra = 0 } in
-    let e = directory_is c.args.referrer.now _ _ c.split-last.ensures ∙ ap (λ o. segments (option_map (λ x. x.now) o)) c.in-default-directory.is in
-    subst (λ d. Decides c.is-met-at-the-top.result (walked [] (d ++ ys) ≡ Some (parts c.args.target.now))) (sym e)
-    (decided_at ys start refl c.in-Some.inner c.is-met-at-the-top.result c.in-Some.ensures.back c.is-met-at-the-top.ensures)
+    let e = directory_is c.args.referrer.now _ _ c.split_last.ensures ∙ ap (λ o. segments (option_map (λ x. x.now) o)) c.in-default-directory.is in
+    subst (λ d. Decides c.is_met_at_the_top.result (walked [] (d ++ ys) ≡ Some (parts c.args.target.now))) (sym e)
+    (decided_at ys start refl c.in-Some.inner c.is_met_at_the_top.result c.in-Some.ensures.back c.is_met_at_the_top.ensures)
 
-pub returns-in-default-before-path : goal.returns-in-default-before-path
-returns-in-default-before-path c =
+pub returns-in-default-before_path : goal.returns-in-default-before_path
+returns-in-default-before_path c =
     let ys = parts c.args.specifier.now in
     let xs = parts c.in-Some-directory.d.now in
     let start : Goal = record { path = Some c.args.target; extra = 0 } in
-    let e = directory_is c.args.referrer.now _ _ c.split-last.ensures ∙ ap (λ o. segments (option_map (λ x. x.now) o)) c.in-Some-directory.is in
+    let e = directory_is c.args.referrer.now _ _ c.split_last.ensures ∙ ap (λ o. segments (option_map (λ x. x.now) o)) c.in-Some-directory.is in
     subst (λ d. Decides false (walked [] (d ++ ys) ≡ Some (parts c.args.target.now))) (sym e)
-    (decided_not (xs ++ ys) start refl (back_nowhere xs ys start c.in-Some.inner c.in-Some.ensures.back c.in-default-before-path.ensures.back))
+    (decided_not (xs ++ ys) start refl (back_nowhere xs ys start c.in-Some.inner c.in-Some.ensures.back c.in-default-before_path.ensures.back))
 
 pub returns : goal.returns
 returns c =
     let ys = parts c.args.specifier.now in
     let xs = parts c.in-Some-directory.d.now in
     let start : Goal = record { path = Some c.args.target; extra = 0 } in
-    let e = directory_is c.args.referrer.now _ _ c.split-last.ensures ∙ ap (λ o. segments (option_map (λ x. x.now) o)) c.in-Some-directory.is in
-    subst (λ d. Decides c.is-met-at-the-top-2.result (walked [] (d ++ ys) ≡ Some (parts c.args.target.now))) (sym e)
-    (decided_at (xs ++ ys) start refl c.in-Some-before-path.outer c.is-met-at-the-top-2.result
-    (back_further xs ys start c.in-Some.inner c.in-Some-before-path.outer c.in-Some.ensures.back c.in-Some-before-path.ensures.back) c.is-met-at-the-top-2.ensures)
+    let e = directory_is c.args.referrer.now _ _ c.split_last.ensures ∙ ap (λ o. segments (option_map (λ x. x.now) o)) c.in-Some-directory.is in
+    subst (λ d. Decides c.is_met_at_the_top-2.result (walked [] (d ++ ys) ≡ Some (parts c.args.target.now))) (sym e)
+    (decided_at (xs ++ ys) start refl c.in-Some-before_path.outer c.is_met_at_the_top-2.result
+    (back_further xs ys start c.in-Some.inner c.in-Some-before_path.outer c.in-Some.ensures.back c.in-Some-before_path.ensures.back) c.is_met_at_the_top-2.ensures)

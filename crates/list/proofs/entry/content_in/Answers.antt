@@ -10,4 +10,4 @@ returns-in-default-bytes c =
 pub returns-in-len8-up : goal.returns-in-len8-up
 returns-in-len8-up c =
     let l : 8 ≤ length c.args.bytes.now = search rules in
-    number_in c.args.bytes.now c.args.kind c.in-1.is _ _ l c.from-be-bytes-pattern.ensures c.f64-from-bits-with-nan.ensures
+    number_in c.args.bytes.now c.args.kind c.in-1.is _ _ l c.from_be_bytes-pattern.ensures c.f64_from_bits_with_nan.ensures

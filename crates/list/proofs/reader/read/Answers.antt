@@ -8,8 +8,8 @@ use Rattle.list.proofs.reader.read.Goals as goal
 pub loop-rest-init : goal.loop-rest-init
 loop-rest-init c = at_first c.args.bytes.now c.new-module.result (seen c.new-seen.result) c.new-module.ensures.declares c.new-module.ensures.values c.new-seen.ensures
 
-pub overflow-sub-byte : goal.overflow-sub-byte
-overflow-sub-byte c = fits c.args.bytes.now c.loop-rest.module (seen c.loop-rest.seen) c.loop-rest.rest.now c.loop-rest.invariant
+pub overflow_sub-byte : goal.overflow_sub-byte
+overflow_sub-byte c = fits c.args.bytes.now c.loop-rest.module (seen c.loop-rest.seen) c.loop-rest.rest.now c.loop-rest.invariant
 
 pub returns-in-default : goal.returns-in-default
 returns-in-default c =

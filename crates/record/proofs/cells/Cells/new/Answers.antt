@@ -1,5 +1,5 @@
 use Rattle.record.proofs.Rows.{blank_square}
 use Rattle.record.proofs.cells.Cells.new.Goals as goal
 
-pub invariant-of-result : goal.invariant-of-result
-invariant-of-result c = (blank_square, tt)
+pub invariant_of-result : goal.invariant_of-result
+invariant_of-result c = record { square = blank_square }
