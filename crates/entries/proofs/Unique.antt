@@ -1,13 +1,13 @@
 -- A byte string means one thing.
-use Rattle.std.proofs.Common.{◌≡◌, ℕ, ◌<◌, ◌≤◌, Bool, true, false, ◌&&◌, leb, ◌⊎◌, List, [], ◌∷◌, ◌++◌, map, length, Ok, Err, Result, sym, refl, ap, ◌∙◌, subst, inl, inr, append_assoc, append-nil, arith, length-append}
+use Rattle.std.proofs.Common.{◌≡◌, ℕ, ◌<◌, ◌≤◌, true, false, ◌&&◌, leb, List, [], ◌∷◌, ◌++◌, map, length, Ok, Err, Result, sym, refl, ap, ◌∙◌, subst, append_assoc, append-nil, arith, length-append}
 use Rattle.std.proofs.lemmas.List.{map-append}
 use Rattle.std.proofs.lemmas.Bool.{and_parts, and_from, leb-true, le-leb, both_ways}
-use Rattle.names.specs.Names.{Name, among, distinct, every}
+use Rattle.names.specs.Names.{among, distinct, every}
 use Rattle.names.proofs.Every.{every_append}
 use Rattle.names.proofs.Distinct.{distinct_push, distinct_split}
 use Rattle.entries.specs.declared.stop.Stop.{Stop}
 use Rattle.entries.specs.declared.stop.Stop.TheVariants.{Malformed, TooMany, Repeated}
-use Rattle.entries.specs.Entries.{Format, LawfulFormat, all_encoded, well_formed, Front, Begins, Refused, Stops, Means, MeansOnly}
+use Rattle.entries.specs.Entries.{Format, LawfulFormat, all_encoded, well_formed, Front, Refused, Stops, Means, MeansOnly}
 
 module _ {E : Type 0} (F : Format E) where
   pub all_encoded_append : (es fs : List E) → all_encoded F (es ++ fs) ≡ all_encoded F es ++ all_encoded F fs

@@ -1,5 +1,5 @@
 -- Entries written one behind another: which byte strings are such lists, and at which entry any other is refused.
-use Rattle.std.specs.Prelude.{◌≡◌, ℕ, ◌<◌, Bool, true, false, ◌&&◌, List, [], ◌∷◌, ◌++◌, map, length, Ok, Err, Result, ◌≢◌, nat_le}
+use Rattle.std.specs.Prelude.{◌≡◌, ℕ, ◌<◌, Bool, true, ◌&&◌, List, [], ◌∷◌, ◌++◌, map, length, Ok, Err, Result, ◌≢◌, nat_le}
 use Rattle.names.specs.Names.{Name, among, distinct, every}
 use Rattle.entries.specs.declared.stop.Stop.{Stop}
 use Rattle.entries.specs.declared.stop.Stop.TheVariants.{Malformed, TooMany, Repeated}

@@ -1,5 +1,5 @@
 -- What the kind of one cell means.
-use Rattle.std.specs.Prelude.{◌≡◌, ℕ, true, List, [], ◌∷◌, None, codes, slice_set, refl}
+use Rattle.std.specs.Prelude.{◌≡◌, true, [], ◌∷◌, None, codes, slice_set}
 use Rattle.std.proofs.Common.{sym, ◌∙◌, ap}
 use Rattle.std.proofs.lemmas.List.{length-set}
 use Rattle.record.specs.declared.value.Value.{Value}

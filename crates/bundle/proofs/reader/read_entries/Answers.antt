@@ -24,12 +24,12 @@ pub loop-rest-preserved : goal.loop-rest-preserved
 loop-rest-preserved c =
     let before = plain_all (vec_items c.loop-rest.entries) in
     let x = plain c.in-Some.entry in
-    let items = chosen _ _ _ _ c.push.ensures.items (ap is_ok c.in-ok-push.was) in
+    let items = chosen _ _ _ _ c.push.ensures.items (ap is_ok c.in_ok-push.was) in
     let pushed : plain_all (vec_items c.push.new.self) ≡ before ++ (x ∷ []) = ap plain_all items ∙ map-append plain (vec_items c.loop-rest.entries) (c.in-Some.entry ∷ []) in
     let front = one_more c.args.bytes.now before _ c.loop-rest.invariant.0 x c.in-Some.more.now (seen c.loop-rest.seen) c.in-Some.ensures c.loop-rest.invariant.1 (ap is_some (sym c.refusal.ensures) ∙ sym c.is_some.ensures ∙ c.if-is_some.false) in
     let less = rest_shrinks c.loop-rest.rest.now x c.in-Some.more.now c.in-Some.ensures in
     let names : seen c.add.new.self ≡ map (λ e. e.key) (plain_all (vec_items c.push.new.self)) =
-    c.in-ok-add.ensures ∙ ap (λ ns. ns ++ (x.key ∷ [])) c.loop-rest.invariant.1 ∙ sym (map-append (λ e. e.key) before (x ∷ [])) ∙ ap (map (λ e. e.key)) (sym pushed) in (
+    c.in_ok-add.ensures ∙ ap (λ ns. ns ++ (x.key ∷ [])) c.loop-rest.invariant.1 ∙ sym (map-append (λ e. e.key) before (x ∷ [])) ∙ ap (map (λ e. e.key)) (sym pushed) in (
       subst (λ es. Front format c.args.bytes.now es c.in-Some.more.now) (sym pushed) front,
       names,
       omega (arith, c.loop-rest.invariant.2),

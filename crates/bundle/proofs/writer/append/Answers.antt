@@ -6,7 +6,7 @@ use Rattle.bundle.proofs.writer.append.Goals as goal
 
 pub returns : goal.returns
 returns c =
-    let a = chosen _ _ _ _ c.extend_from_slice.ensures.items (ap is_ok c.in-ok-extend_from_slice.was) in
-    let b = chosen _ _ _ _ c.extend_from_slice-2.ensures.items (ap is_ok c.in-ok-extend_from_slice-2.was) in
-    let d = chosen _ _ _ _ c.extend_from_slice-3.ensures.items (ap is_ok c.in-ok-extend_from_slice-3.was) in
+    let a = chosen _ _ _ _ c.extend_from_slice.ensures.items (ap is_ok c.in_ok-extend_from_slice.was) in
+    let b = chosen _ _ _ _ c.extend_from_slice-2.ensures.items (ap is_ok c.in_ok-extend_from_slice-2.was) in
+    let d = chosen _ _ _ _ c.extend_from_slice-3.ensures.items (ap is_ok c.in_ok-extend_from_slice-3.was) in
     appended _ _ _ _ (head_bytes (plain c.args.e.now)) c.args.e.now.key.now c.args.e.now.payload.now (a ∙ ap (λ h. vec_items c.args.out.now ++ h) c.head.ensures) b d

@@ -27,8 +27,8 @@ loop-e-preserved c =
     let inv = c.loop-e.invariant in
     let l = c.args.entries.now in
     let i = c.loop-e.e-index in (
-      written_more l i _ c.loop-e-test.true (vec_items c.loop-e.out) (vec_items c.append.new.out) inv.0 c.in-ok-append.ensures,
-      names_more l i _ c.loop-e-test.true inv.2 (seen c.loop-e.seen) inv.1 (seen c.add.new.self) c.in-ok-add.ensures,
+      written_more l i _ c.loop-e-test.true (vec_items c.loop-e.out) (vec_items c.append.new.out) inv.0 c.in_ok-append.ensures,
+      names_more l i _ c.loop-e-test.true inv.2 (seen c.loop-e.seen) inv.1 (seen c.add.new.self) c.in_ok-add.ensures,
       well_more l i _ c.loop-e-test.true inv.2 (seen c.loop-e.seen) inv.1 (sym c.is_well_formed.ensures ∙ c.if-not-is_well_formed.false) (ap is_some (sym c.refusal.ensures) ∙ sym c.is_some.ensures ∙ c.if-is_some.false),
     )
 

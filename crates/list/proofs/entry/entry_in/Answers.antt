@@ -12,14 +12,14 @@ returns-then-not-is_word c =
     let l : 1 ≤ length c.args.bytes.now = search rules in
     no_word c.args.bytes.now l _ c.from-length.ensures _ _ c.split_at.ensures.front c.split_at.ensures.back (sym c.is_word.ensures ∙ c.if-not-is_word.true)
 
-pub returns-in-err-value : goal.returns-in-err-value
-returns-in-err-value c =
+pub returns-in_err-value : goal.returns-in_err-value
+returns-in_err-value c =
     let l : 1 ≤ length c.args.bytes.now = search rules in
     rw c.from-residual.ensures
-    (no_content c.args.bytes.now l _ c.from-length.ensures _ _ c.split_at.ensures.front c.split_at.ensures.back c.in-err-value.ensures)
+    (no_content c.args.bytes.now l _ c.from-length.ensures _ _ c.split_at.ensures.front c.split_at.ensures.back c.in_err-value.ensures)
 
 pub returns : goal.returns
 returns c =
     let l : 1 ≤ length c.args.bytes.now = search rules in
     an_entry c.args.bytes.now l _ c.from-length.ensures _ _ c.split_at.ensures.front c.split_at.ensures.back
-    c.split_at.result.0 c.in-ok-value.value c.in-ok-value.rest refl c.if-length-gt-LONGEST_NAME.false c.if-length-behind.false (sym c.is_word.ensures ∙ c.if-not-is_word.false) c.in-ok-value.ensures
+    c.split_at.result.0 c.in_ok-value.value c.in_ok-value.rest refl c.if-length-gt-LONGEST_NAME.false c.if-length-behind.false (sym c.is_word.ensures ∙ c.if-not-is_word.false) c.in_ok-value.ensures

@@ -40,7 +40,7 @@ pub loop-rest-preserved : goal.loop-rest-preserved
 loop-rest-preserved c =
     one_more_read c.args.bytes.now c.loop-rest.module (seen c.loop-rest.seen) c.loop-rest.rest.now c.loop-rest.invariant
     c.in-Some.entry c.in-Some.ensures c.add-in-loop-rest.new.self (seen c.add.new.self)
-    (sym c.in-default-refusal.ensures) c.in-ok-add-2.ensures.declares c.in-ok-add-2.ensures.values c.in-ok-add.ensures
+    (sym c.in-default-refusal.ensures) c.in_ok-add-2.ensures.declares c.in_ok-add-2.ensures.values c.in_ok-add.ensures
 
 pub returns : goal.returns
 returns c =

@@ -1,4 +1,4 @@
-use Rattle.std.proofs.Common.{◌≡◌, map, sym, refl, ap, ◌∙◌}
+use Rattle.std.proofs.Common.{map, sym, refl, ap, ◌∙◌}
 use Rattle.names.specs.Names.{among}
 use Rattle.entries.proofs.Seeing.{found, goes_on, not_found}
 use Rattle.entries.proofs.seen.Seen.has.Goals as goal

@@ -1,4 +1,4 @@
-use Rattle.std.proofs.Common.{◌≡◌, length, vec_items, vec_len, sym, ◌∙◌, arith}
+use Rattle.std.proofs.Common.{◌≡◌, length, vec_items, sym, ◌∙◌, arith}
 use lib.ListN.{length-map}
 use Rattle.entries.specs.Seen.{seen}
 use Rattle.entries.proofs.Seeing.{refuses_a_33rd, refuses_a_repeated, refuses_no_other}
