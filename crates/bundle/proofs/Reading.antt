@@ -1,5 +1,5 @@
 -- Reading a bundle entry by entry.
-use Rattle.std.proofs.Common.{◌≡◌, ℕ, ◌-◌, ◌<◌, ◌≤◌, Bool, true, false, ◌⊎◌, List, [], ◌∷◌, ◌++◌, map, length, is_some, Some, None, Ok, Err, Option, Result, sym, refl, ap, ◌∙◌, subst, inl, inr, append-nil, arith, length-append}
+use Rattle.std.proofs.Common.{◌≡◌, ℕ, ◌-◌, ◌<◌, ◌≤◌, true, false, ◌⊎◌, List, [], ◌∷◌, ◌++◌, map, length, is_some, Some, None, Ok, Err, Option, Result, sym, refl, ap, ◌∙◌, subst, inl, inr, append-nil, arith, length-append}
 use Rattle.std.proofs.lemmas.Bool.{true≢false, false≢true}
 use Rattle.names.specs.Names.{Name}
 use Rattle.record.specs.declared.denial.Denial.{Denial}
@@ -10,7 +10,7 @@ use Rattle.entries.specs.Seen.{refusal}
 use Rattle.entries.proofs.Steps.{stops_malformed, stops_refused, goes_on}
 use Rattle.entries.proofs.Unique.{means_only}
 use Rattle.bundle.specs.Format.{Entry, format}
-use Rattle.bundle.specs.Bundles.{malformed_at, OutOfMemory, Refused, too_long, stops, Reads, TakesFirst, InvertsWriting}
+use Rattle.bundle.specs.Bundles.{malformed_at, IsOutOfMemory, Refused, too_long, stops, Reads, TakesFirst, InvertsWriting}
 use Rattle.bundle.proofs.Lawful.{lawful}
 
 -- what a refused name is refused for
@@ -56,7 +56,7 @@ inverts s r h = record { there = there r h; back = back r h }
         (sym (ap (all_encoded format) same) ∙ sym (append-nil (all_encoded format fs)) ∙ f.all, sym (ap (well_formed format) same) ∙ f.well)
     there (Err d) h es e = absurd (let z : ◌≡◌ {A = ℕ} 0 1 = cc in omega arith)
 
-    back : (r : Result (List Entry) Denial) → Reads s r → (es : List Entry) → all_encoded format es ≡ s → well_formed format es ≡ true → length s ≤ 65536 → (r ≡ Ok es) ⊎ ((d : Denial) × (r ≡ Err d) × OutOfMemory d)
+    back : (r : Result (List Entry) Denial) → Reads s r → (es : List Entry) → all_encoded format es ≡ s → well_formed format es ≡ true → length s ≤ 65536 → (r ≡ Ok es) ⊎ ((d : Denial) × (r ≡ Err d) × IsOutOfMemory d)
     back (Ok fs) h es e w l =
         let k = h.1.only (Ok es) (record { all = append-nil (all_encoded format es) ∙ e; well = w }) in
         let same : fs ≡ es = cc in

@@ -1,16 +1,14 @@
 -- Taking the first entry from a byte string.
-use Rattle.std.proofs.Common.{◌≡◌, ℕ, suc, ◌+◌, ◌-◌, ◌*◌, ◌/◌, ◌%◌, ◌<◌, ◌≤◌, Bool, true, false, cond, ltb, ◌⊎◌, List, [], ◌∷◌, ◌++◌, length, get_or, take, drop, Some, None, Option, sym, refl, ap, ◌∙◌, inl, inr, append_assoc, arith, length-append}
+use Rattle.std.proofs.Common.{◌≡◌, ℕ, ◌+◌, ◌-◌, ◌*◌, ◌/◌, ◌%◌, ◌<◌, ◌≤◌, Bool, true, false, cond, ltb, List, [], ◌∷◌, ◌++◌, length, get_or, take, drop, Some, None, sym, refl, ap, ◌∙◌, append_assoc, arith, length-append}
 use native.Mathlib.Nat.{div-add-mod}
 use Rattle.std.proofs.lemmas.List.{take_rest, take_at}
-use Rattle.std.proofs.lemmas.Bool.{and_parts, and_from, both_ways, lt-ltb, cases_Bool, ltb-true, ltb-false}
-use Rattle.names.specs.Names.{Name}
+use Rattle.std.proofs.lemmas.Bool.{and_parts, and_from, both_ways, lt-ltb, ltb-true, ltb-false}
 use Rattle.names.specs.Keys.{key}
 use Rattle.entries.specs.Entries.{Begins}
 use Rattle.bundle.specs.declared.entry.PayloadKind.{PayloadKind}
 use Rattle.bundle.specs.declared.entry.PayloadKind.TheVariants.{Text, List as SyntheticList}
-use Rattle.bundle.specs.Format.{Entry, kind_number, kind_of, encoded, good, format}
-use Rattle.bundle.specs.Bundles.{Fits}
-use Rattle.bundle.proofs.Lawful.{good_fits, kind_below}
+use Rattle.bundle.specs.Format.{kind_number, kind_of, encoded, good, format}
+use Rattle.bundle.proofs.Lawful.{good_fits}
 
 -- the lengths that the first three bytes give
 key_size : List ℕ → ℕ

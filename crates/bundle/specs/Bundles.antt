@@ -1,19 +1,19 @@
 -- What reading and writing a bundle answer.
-use Rattle.std.specs.Prelude.{◌≡◌, ℕ, ◌<◌, ◌≤◌, true, false, ◌⊎◌, List, [], ◌∷◌, ◌++◌, map, length, Some, None, Ok, Err, Option, Result}
+use Rattle.std.specs.Prelude.{◌≡◌, ℕ, ◌<◌, ◌≤◌, true, false, ◌⊎◌, List, ◌∷◌, ◌++◌, map, length, Some, None, Ok, Err, Option, Result}
 use mathlib.Core.List.{Memᴰ}
 use Rattle.names.specs.Names.{among}
 use Rattle.record.specs.declared.denial.Cause.TheVariants.{MalformedBundle, OutOfMemory}
 use Rattle.record.specs.declared.denial.Denial.{Denial}
 use Rattle.entries.specs.declared.stop.Stop.{Stop}
-use Rattle.entries.specs.Entries.{all_encoded, well_formed, Begins, Means, MeansOnly}
+use Rattle.entries.specs.Entries.{all_encoded, well_formed, Begins, MeansOnly}
 use Rattle.bundle.specs.Format.{Entry, good, format}
 
 -- the denial of a bundle at a byte; it names no place
 abbrev pub malformed_at : ℕ → Denial
 malformed_at byte = record { cause = MalformedBundle; place = None; byte = byte }
 
-abbrev pub OutOfMemory : Denial → Type 0
-OutOfMemory d = d.cause ≡ OutOfMemory
+abbrev pub IsOutOfMemory : Denial → Type 0
+IsOutOfMemory d = d.cause ≡ OutOfMemory
 
 -- a bundle of more than 65,536 bytes is refused there, and any other at its first refused entry
 pub data Refused (s : List ℕ) : Denial → Type 0 where
@@ -23,7 +23,7 @@ pub data Refused (s : List ℕ) : Denial → Type 0 where
 -- a bundle is read as the one list of well-formed entries that it is, and any other byte string is refused
 abbrev pub Reads : List ℕ → Result (List Entry) Denial → Type 0
 Reads s (Ok es) = (length s ≤ 65536) × MeansOnly format s (Ok es)
-Reads s (Err d) = OutOfMemory d ⊎ Refused s d
+Reads s (Err d) = IsOutOfMemory d ⊎ Refused s d
 
 -- a well-formed entry is taken from the front, where one stands
 abbrev pub TakesFirst : List ℕ → Option (Entry × List ℕ) → Type 0
@@ -33,7 +33,7 @@ TakesFirst s (Some x) = (format.encoded x.0 ++ x.1 ≡ s) × (good x.0 ≡ true)
 -- reading inverts writing: what some well-formed entries are written as is read as those entries, and nothing else is read
 pub record InvertsWriting (s : List ℕ) (r : Result (List Entry) Denial) : Type 0 where
   pub there : (es : List Entry) → r ≡ Ok es → (all_encoded format es ≡ s) × (well_formed format es ≡ true)
-  pub back : (es : List Entry) → all_encoded format es ≡ s → well_formed format es ≡ true → length s ≤ 65536 → (r ≡ Ok es) ⊎ ((d : Denial) × (r ≡ Err d) × OutOfMemory d)
+  pub back : (es : List Entry) → all_encoded format es ≡ s → well_formed format es ≡ true → length s ≤ 65536 → (r ≡ Ok es) ⊎ ((d : Denial) × (r ≡ Err d) × IsOutOfMemory d)
 
 -- why an entry may not stand behind others: it is not well formed, or a 33rd, or its key was there
 abbrev pub Misplaced : List Entry → Entry → Type 0
@@ -61,7 +61,7 @@ pub record Written (es : List Entry) (s : List ℕ) : Type 0 where
 
 abbrev pub Writes : List Entry → Result (List ℕ) Denial → Type 0
 Writes es (Ok s) = Written es s
-Writes es (Err d) = OutOfMemory d ⊎ Unwritable es d
+Writes es (Err d) = IsOutOfMemory d ⊎ Unwritable es d
 
 -- the lengths of an entry fit their bits
 pub record Fits (e : Entry) : Type 0 where
@@ -70,4 +70,4 @@ pub record Fits (e : Entry) : Type 0 where
 
 -- writing refuses as reading would: where all lengths fit their bits, reading what would have been written is refused alike
 abbrev pub RefusesAsReadingWould : List Entry → Result (List ℕ) Denial → Type 0
-RefusesAsReadingWould es r = (d : Denial) → r ≡ Err d → ¬ OutOfMemory d → ((e : Entry) → Memᴰ e es → Fits e) → Refused (all_encoded format es) d
+RefusesAsReadingWould es r = (d : Denial) → r ≡ Err d → ¬ IsOutOfMemory d → ((e : Entry) → Memᴰ e es → Fits e) → Refused (all_encoded format es) d

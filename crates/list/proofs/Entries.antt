@@ -5,7 +5,7 @@ use Rattle.std.proofs.lemmas.Bool.{and_parts, and_from, leb-true, le-leb, both_w
 use Rattle.names.specs.Words.{word}
 use Rattle.entries.specs.Entries.{Begins, LawfulFormat}
 use Rattle.record.specs.declared.value.Value.{Value}
-use Rattle.list.specs.Lists.{Entry, kind, pattern_of, whole, encoded, good, list_format, value}
+use Rattle.list.specs.Lists.{Entry, kind, pattern_of, whole, encoded, good, list_format}
 use Rattle.list.specs.Reading.{ReadsContent, ReadAs}
 use Rattle.list.proofs.Contents.{contents_apart}
 

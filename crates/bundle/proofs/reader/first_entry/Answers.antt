@@ -15,6 +15,6 @@ returns c =
     let long : 3 ≤ length s = omega (arith, leb-false) in
     let high : get_or s 1 0 < 256 = (c.type_inv.bytes 1).fits in
     let low : get_or s 2 0 < 256 = (c.type_inv.bytes 2).fits in
-    let whole = taken_whole s k _ _ _ _ long c.in_ok-kind.ensures c.split_at.ensures.by_index.0 c.split_at-2.ensures.by_index.0 c.split_at.ensures.front-len c.split_at-2.ensures.front-len high low (sym c.is_key.ensures.value ∙ c.if-not-is_key.false) in
-    let well = taken_good s k _ _ _ _ long c.in_ok-kind.ensures c.split_at.ensures.by_index.0 c.split_at-2.ensures.by_index.0 c.split_at.ensures.front-len c.split_at-2.ensures.front-len high low (sym c.is_key.ensures.value ∙ c.if-not-is_key.false) in
+    let whole = taken_whole s k _ _ _ _ long c.in_ok-kind.ensures c.split_at.ensures.by_index.0 c.split_at-2.ensures.by_index.0 c.split_at.ensures.front_len c.split_at-2.ensures.front_len high low (sym c.is_key.ensures.value ∙ c.if-not-is_key.false) in
+    let well = taken_good s k _ _ _ _ long c.in_ok-kind.ensures c.split_at.ensures.by_index.0 c.split_at-2.ensures.by_index.0 c.split_at.ensures.front_len c.split_at-2.ensures.front_len high low (sym c.is_key.ensures.value ∙ c.if-not-is_key.false) in
     (whole, well)

@@ -8,10 +8,10 @@ use Rattle.bundle.specs.Format.{plain, plain_all, format}
 use Rattle.bundle.proofs.Reading.{no_entry, no_room, one_more, all_read, rest_shrinks}
 use Rattle.bundle.proofs.reader.read_entries.Goals as goal
 
-pub returns-in-default : goal.returns-in-default
-returns-in-default c =
+pub returns-in_default : goal.returns-in_default
+returns-in_default c =
     let some : ¬ (c.loop-rest.rest.now ≡ []) = λ e. eqb-false (length c.loop-rest.rest.now) 0 (sym c.is_empty.ensures ∙ c.loop-rest-test.true) (ap length e) in
-    inr (no_entry c.args.bytes.now _ _ c.loop-rest.invariant.0 c.requires c.malformed.result c.malformed.ensures some c.in-default.ensures)
+    inr (no_entry c.args.bytes.now _ _ c.loop-rest.invariant.0 c.requires c.malformed.result c.malformed.ensures some c.in_default.ensures)
 
 pub returns-then-is_some : goal.returns-then-is_some
 returns-then-is_some c =

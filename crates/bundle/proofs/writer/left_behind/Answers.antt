@@ -1,4 +1,4 @@
-use Rattle.std.proofs.Common.{◌≡◌, ◌≤◌, arith, length-append}
+use Rattle.std.proofs.Common.{arith, length-append}
 use Rattle.bundle.proofs.Writing.{checked_as, checked_none}
 use Rattle.bundle.proofs.writer.left_behind.Goals as goal
 
@@ -7,7 +7,7 @@ returns-in_err-checked_sub-2 c =
     let n = length-append c.args.e.now.key.now c.args.e.now.payload.now in
     let a = c.in_ok-checked_sub.ensures in
     let b = c.in_err-checked_sub-2.ensures in
-    checked_none _ _ _ c.from-residual-in_err-checked_sub-2.ensures (λ l. b (omega arith))
+    checked_none _ _ _ c.from_residual-in_err-checked_sub-2.ensures (λ l. b (omega arith))
 
 pub returns : goal.returns
 returns c =

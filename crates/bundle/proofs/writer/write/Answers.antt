@@ -2,7 +2,7 @@ use Rattle.std.proofs.Common.{◌⊎◌, length, Err, sym, ◌∙◌, subst, inr
 use Rattle.std.proofs.lemmas.Bool.{ltb-true}
 use Rattle.entries.specs.Entries.{all_encoded}
 use Rattle.bundle.specs.Format.{format, plain_all, plain_written}
-use Rattle.bundle.specs.Bundles.{OutOfMemory, Unwritable, too_large}
+use Rattle.bundle.specs.Bundles.{IsOutOfMemory, Unwritable, too_large}
 use Rattle.bundle.proofs.Writing.{refuses_alike}
 use Rattle.bundle.proofs.writer.write.Goals as goal
 
@@ -10,7 +10,7 @@ pub returns-then-is_too_long : goal.returns-then-is_too_long
 returns-then-is_too_long c =
     let es = plain_all c.args.entries.now in
     let long = ltb-true 65536 (length (all_encoded format es)) (sym c.is_too_long.ensures ∙ c.if-is_too_long.true) in
-    let h : OutOfMemory c.malformed.result ⊎ Unwritable es c.malformed.result = inr (subst (Unwritable es) (sym c.malformed.ensures) (too_large long)) in
+    let h : IsOutOfMemory c.malformed.result ⊎ Unwritable es c.malformed.result = inr (subst (Unwritable es) (sym c.malformed.ensures) (too_large long)) in
     record { writes = h; refuses = refuses_alike es (Err c.malformed.result) h }
 
 pub returns : goal.returns

@@ -2,8 +2,8 @@ use Rattle.std.proofs.Common.{◌<◌, ◌≤◌, length, rules}
 use Rattle.list.proofs.Contents.{number_in, cut_number}
 use Rattle.list.proofs.entry.content_in.Goals as goal
 
-pub returns-in-default-bytes : goal.returns-in-default-bytes
-returns-in-default-bytes c =
+pub returns-in_default-bytes : goal.returns-in_default-bytes
+returns-in_default-bytes c =
     let l : length c.args.bytes.now < 8 = search rules in
     cut_number c.args.bytes.now c.args.kind c.in-1.is l
 

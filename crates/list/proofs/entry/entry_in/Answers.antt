@@ -15,7 +15,7 @@ returns-then-not-is_word c =
 pub returns-in_err-value : goal.returns-in_err-value
 returns-in_err-value c =
     let l : 1 ≤ length c.args.bytes.now = search rules in
-    rw c.from-residual.ensures
+    rw c.from_residual.ensures
     (no_content c.args.bytes.now l _ c.from-length.ensures _ _ c.split_at.ensures.front c.split_at.ensures.back c.in_err-value.ensures)
 
 pub returns : goal.returns

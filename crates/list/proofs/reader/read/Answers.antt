@@ -11,14 +11,14 @@ loop-rest-init c = at_first c.args.bytes.now c.new-module.result (seen c.new-see
 pub overflow_sub-byte : goal.overflow_sub-byte
 overflow_sub-byte c = fits c.args.bytes.now c.loop-rest.module (seen c.loop-rest.seen) c.loop-rest.rest.now c.loop-rest.invariant
 
-pub returns-in-default : goal.returns-in-default
-returns-in-default c =
+pub returns-in_default : goal.returns-in_default
+returns-in_default c =
     inr (
       Malformed,
       _,
       c.refused.ensures,
       malformed c.args.bytes.now c.loop-rest.module (seen c.loop-rest.seen) c.loop-rest.rest.now c.loop-rest.invariant
-          (eqb-false _ 0 (sym c.loop-rest-test.ensures)) c.in-default.ensures,
+          (eqb-false _ 0 (sym c.loop-rest-test.ensures)) c.in_default.ensures,
     )
 
 pub returns-in-Some-refusal : goal.returns-in-Some-refusal
@@ -40,7 +40,7 @@ pub loop-rest-preserved : goal.loop-rest-preserved
 loop-rest-preserved c =
     one_more_read c.args.bytes.now c.loop-rest.module (seen c.loop-rest.seen) c.loop-rest.rest.now c.loop-rest.invariant
     c.in-Some.entry c.in-Some.ensures c.add-in-loop-rest.new.self (seen c.add.new.self)
-    (sym c.in-default-refusal.ensures) c.in_ok-add-2.ensures.declares c.in_ok-add-2.ensures.values c.in_ok-add.ensures
+    (sym c.in_default-refusal.ensures) c.in_ok-add-2.ensures.declares c.in_ok-add-2.ensures.values c.in_ok-add.ensures
 
 pub returns : goal.returns
 returns c =
