@@ -22,11 +22,11 @@ pub use walk::Walk;
 /// Pops the stack through `root`, and finishes all that is popped.
 fn settle<W: Walk>(walk: &mut W, stack: &mut Stack, root: Node)
     requires top { stack.old.top ≤ 32 }
-    requires stacked { Stacked (shown (marks walk.old) stack.old) }
-    requires within { Memᴰ root.value (shown (marks walk.old) stack.old).stack }
-    ensures fixed { fixed walk.new ≡ fixed walk.old }
-    ensures does { Finishes (deeds (fixed walk.old)) (shown (marks walk.old) stack.old) root.value (down_to root.value (shown (marks walk.old) stack.old).stack) (state walk.old) (state walk.new) }
-    ensures after { shown (marks walk.new) stack.new ≡ close (shown (marks walk.old) stack.old) root.value }
+    requires stacked { Stacked (shown (W.marks walk.old) stack.old) }
+    requires within { Memᴰ root.value (shown (W.marks walk.old) stack.old).stack }
+    ensures fixed { W.fixed walk.new ≡ W.fixed walk.old }
+    ensures does { Finishes (W.deeds (W.fixed walk.old)) (shown (W.marks walk.old) stack.old) root.value (down_to root.value (shown (W.marks walk.old) stack.old).stack) (W.state walk.old) (W.state walk.new) }
+    ensures after { shown (W.marks walk.new) stack.new ≡ close (shown (W.marks walk.old) stack.old) root.value }
 {
     loop {
         let node = stack.pop();
@@ -39,13 +39,13 @@ fn settle<W: Walk>(walk: &mut W, stack: &mut Stack, root: Node)
 
 /// Opens a new node, and puts it on the stack.
 fn enter<W: Walk>(walk: &mut W, stack: &mut Stack, node: Node)
-    requires fresh { marks walk.old node.value ≡ Fresh }
-    requires room { Room (marks walk.old) stack.old }
-    ensures fixed { fixed walk.new ≡ fixed walk.old }
-    ensures state { state walk.new ≡ state walk.old }
-    ensures after { shown (marks walk.new) stack.new ≡ entered (shown (marks walk.old) stack.old) node.value }
-    ensures room { Room (marks walk.new) stack.new }
-    ensures fewer { count (marks walk.new) 32 < count (marks walk.old) 32 }
+    requires fresh { W.marks walk.old node.value ≡ Fresh }
+    requires room { Room (W.marks walk.old) stack.old }
+    ensures fixed { W.fixed walk.new ≡ W.fixed walk.old }
+    ensures state { W.state walk.new ≡ W.state walk.old }
+    ensures after { shown (W.marks walk.new) stack.new ≡ entered (shown (W.marks walk.old) stack.old) node.value }
+    ensures room { Room (W.marks walk.new) stack.new }
+    ensures fewer { count (W.marks walk.new) 32 < count (W.marks walk.old) 32 }
 {
     walk.open(node);
     stack.push(node);
@@ -53,7 +53,7 @@ fn enter<W: Walk>(walk: &mut W, stack: &mut Stack, node: Node)
 
 /// The low mark of `node` heeds that of `next`, if that is on the stack.
 fn heed<W: Walk>(walk: &W, stack: &mut Stack, node: Node, next: Node)
-    ensures after { shown (marks walk.now) stack.new ≡ lower (shown (marks walk.now) stack.old) node.value next.value }
+    ensures after { shown (W.marks walk.now) stack.new ≡ lower (shown (W.marks walk.now) stack.old) node.value next.value }
     ensures top { stack.new.top ≡ stack.old.top }
     ensures next { stack.new.next ≡ stack.old.next }
 {
@@ -64,11 +64,11 @@ fn heed<W: Walk>(walk: &W, stack: &mut Stack, node: Node, next: Node)
 
 /// Searches a node: what it reaches first, and then its action.
 fn visit<W: Walk>(walk: &mut W, stack: &mut Stack, node: Node) -> Result<(), W::Fault>
-    requires room { Room (marks walk.old) stack.old }
-    requires stacked { Stacked (shown (marks walk.old) stack.old) }
-    ensures fixed { fixed walk.new ≡ fixed walk.old }
-    ensures room { OnOk result (Room (marks walk.new) stack.new) }
-    ensures does { Ends (arrows (fixed walk.old)) (deeds (fixed walk.old)) (shown (marks walk.old) stack.old) (state walk.old) node.value (shown (marks walk.new) stack.new) (state walk.new) result }
+    requires room { Room (W.marks walk.old) stack.old }
+    requires stacked { Stacked (shown (W.marks walk.old) stack.old) }
+    ensures fixed { W.fixed walk.new ≡ W.fixed walk.old }
+    ensures room { OnOk result (Room (W.marks walk.new) stack.new) }
+    ensures does { Ends (W.arrows (W.fixed walk.old)) (W.deeds (W.fixed walk.old)) (shown (W.marks walk.old) stack.old) (W.state walk.old) node.value (shown (W.marks walk.new) stack.new) (W.state walk.new) result }
 {
     match walk.meet(node)? {
         Mark::Fresh => {}
@@ -91,10 +91,10 @@ fn visit<W: Walk>(walk: &mut W, stack: &mut Stack, node: Node) -> Result<(), W::
 /// Searches all that `root` reaches: each new node once, and the nodes of a cycle are finished together. The stack is
 /// made blank first.
 pub fn search<W: Walk>(walk: &mut W, stack: &mut Stack, root: Node) -> Result<(), W::Fault>
-    ensures fixed { fixed walk.new ≡ fixed walk.old }
-    ensures does { Ends (arrows (fixed walk.old)) (deeds (fixed walk.old)) (begin (marks walk.old)) (state walk.old) root.value (shown (marks walk.new) stack.new) (state walk.new) result }
-    ensures laws { Lawful (arrows (fixed walk.old)) (deeds (fixed walk.old)) (begin (marks walk.old)) (state walk.old) root.value (shown (marks walk.new) stack.new) (state walk.new) result }
-    ensures computes { RunsComputeIt (arrows (fixed walk.old)) (deeds (fixed walk.old)) (begin (marks walk.old)) (state walk.old) root.value (shown (marks walk.new) stack.new) (state walk.new) result }
+    ensures fixed { W.fixed walk.new ≡ W.fixed walk.old }
+    ensures does { Ends (W.arrows (W.fixed walk.old)) (W.deeds (W.fixed walk.old)) (begin (W.marks walk.old)) (W.state walk.old) root.value (shown (W.marks walk.new) stack.new) (W.state walk.new) result }
+    ensures laws { Lawful (W.arrows (W.fixed walk.old)) (W.deeds (W.fixed walk.old)) (begin (W.marks walk.old)) (W.state walk.old) root.value (shown (W.marks walk.new) stack.new) (W.state walk.new) result }
+    ensures computes { RunsComputeIt (W.arrows (W.fixed walk.old)) (W.deeds (W.fixed walk.old)) (begin (W.marks walk.old)) (W.state walk.old) root.value (shown (W.marks walk.new) stack.new) (W.state walk.new) result }
 {
     *stack = Stack::new();
     visit(walk, stack, root)
@@ -102,5 +102,5 @@ pub fn search<W: Walk>(walk: &mut W, stack: &mut Stack, root: Node) -> Result<()
 
 /// Each run of the search as a function is a search.
 pub fn runs_are_searches<W: Walk>()
-    ensures { RunsAreSearches State W.Fault }
+    ensures { RunsAreSearches W.State W.Fault }
 {}

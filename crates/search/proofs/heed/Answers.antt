@@ -15,11 +15,11 @@ returns-in-Open g c =
       next = ap (λ (z : Stack). z.next) e;
     }
 
-pub returns-in-default : goal.returns-in-default
-returns-in-default g c =
+pub returns-in_default : goal.returns-in_default
+returns-in_default g c =
     let f = g.W.Walk.marks c.args.walk.now in
     record {
-      after = lower_none (shown f c.args.stack.now) c.args.node.value c.args.next.value (λ o. c.in-default.not-Open (c.look.ensures ∙ o));
+      after = lower_none (shown f c.args.stack.now) c.args.node.value c.args.next.value (λ o. c.in_default.not-Open (c.look.ensures ∙ o));
       top = refl;
       next = refl;
     }
