@@ -6,7 +6,7 @@ use mathlib.Core.List.{Memᴰ}
 use Rattle.search.specs.declared.mark.Mark.TheVariants.{Fresh, Open, Closed}
 use Rattle.search.specs.Search.{Search, enter, down_to, under, close, Deeds, Visits, passes_open, passes_closed, stays, pops, Upto, start, further}
 use Rattle.search.specs.Laws.{Once, one_more}
-use Rattle.search.specs.Stacks.{popped, Stacked}
+use Rattle.search.specs.Stacks.{Stacked}
 use Rattle.search.proofs.Basics.{put_at, put_else, down_to_is, under_is, put_all_cases, open_not_fresh}
 
 once_apart : (l : List ℕ) (r : List ℕ) → Once (l ++ r) → (x : ℕ) → Memᴰ x l → ¬ Memᴰ x r

@@ -3,7 +3,7 @@ use Rattle.std.specs.Prelude.{◌≡◌, ℕ, ◌⊎◌, ◌↔◌, List, [], �
 use mathlib.Core.List.{Memᴰ}
 use Rattle.search.specs.declared.mark.Mark.TheVariants.{Fresh, Open, Closed, Spoilt}
 use Rattle.search.specs.Graph.{Arrow, Reaches}
-use Rattle.search.specs.Search.{Search, down_to, Deeds, Visits, Faults, Ends}
+use Rattle.search.specs.Search.{Search, down_to, Deeds, Faults, Ends}
 
 -- no element stands twice
 pub data Once : List ℕ → Type 0 where

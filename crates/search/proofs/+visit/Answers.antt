@@ -1,11 +1,10 @@
 -- What is left to show of `visit`.
-use Rattle.std.proofs.Common.{◌≡◌, ℕ, ◌-◌, ◌<◌, ◌≤◌, ◌≢◌, ◌⊎◌, length, get_or, sym, refl, ap, ◌∙◌, subst, inl, inr, arith, rules, eqb-true}
+use Rattle.std.proofs.Common.{◌≡◌, ◌<◌, get_or, sym, refl, ap, ◌∙◌, arith, eqb-true}
 use mathlib.Core.Path.{subst⁻¹}
 use Rattle.std.proofs.lemmas.Result.{err_from_is_err_and}
 use Rattle.std.specs.Option.{option_map}
 use Rattle.search.specs.declared.node.Node.{Node}
 use Rattle.search.specs.declared.stack.Stack.{Stack}
-use Rattle.search.specs.declared.mark.Mark.TheVariants.{Fresh, Open, Closed, Spoilt}
 use Rattle.search.specs.Search.{Search, start, hands_on, Visits}
 use Rattle.search.specs.Stacks.{shown, count, Room, Stacked}
 use Rattle.search.proofs.Searching.{AtNode, node_stacked, node_within, node_fewer, node_inside, node_fails, node_stays, node_pops, one_further, passes, at_exit}

@@ -1,7 +1,7 @@
 -- What is left to show of `enter`.
-use Rattle.std.proofs.Common.{◌≡◌, ◌+◌, ◌<◌, sym, ap, ◌∙◌, arith}
+use Rattle.std.proofs.Common.{◌≡◌, ◌+◌, ◌<◌, ap, ◌∙◌, arith}
 use Rattle.search.specs.declared.stack.Stack.{Stack}
-use Rattle.search.specs.Stacks.{count, shown}
+use Rattle.search.specs.Stacks.{shown}
 use Rattle.search.proofs.Counting.{count_opened}
 use Rattle.search.proofs.Shown.{shown_enter}
 use Rattle.search.proofs.enter.Goals as goal

@@ -1,5 +1,5 @@
 -- What is left to show of `search`.
-use Rattle.std.proofs.Common.{◌≡◌, [], sym, subst, arith}
+use Rattle.std.proofs.Common.{subst, arith}
 use mathlib.Core.Path.{subst⁻¹}
 use Rattle.search.specs.Search.{Search, begin, Ends}
 use Rattle.search.specs.Laws.{none}

@@ -1,10 +1,8 @@
 -- What is left to show of `settle`.
-use Rattle.std.proofs.Common.{◌≡◌, ◌-◌, ◌<◌, ◌≤◌, sym, ap, ◌∙◌, subst, arith, rules}
+use Rattle.std.proofs.Common.{◌≡◌, ◌-◌, sym, ap, ◌∙◌, subst, arith}
 use Rattle.search.specs.declared.stack.Stack.{Stack}
-use Rattle.search.specs.declared.mark.Mark.TheVariants.{Open}
-use Rattle.search.specs.Search.{Search}
 use Rattle.search.specs.Stacks.{shown}
-use Rattle.search.proofs.Popping.{pop_some, pop_open, pop_more, pop_last, popping_starts}
+use Rattle.search.proofs.Popping.{pop_some, pop_open, pop_more, pop_last}
 use Rattle.search.proofs.settle.Goals as goal
 
 pub pop-node-requires : goal.pop-node-requires
