@@ -2,13 +2,12 @@
 use Rattle.std.proofs.Common.{◌≡◌, ℕ, zero, suc, ◌+◌, ◌%◌, ◌<◌, List, length, get_or, set, replicate, sym, refl, ap, ◌∙◌, subst, inl, inr, arith, length-set, get_or-set_other, get_or-set_same}
 use mathlib.Core.List.Memᴰ
 use mathlib.Core.List.{Memᴰ}
-use Rattle.search.specs.declared.mark.Mark.TheVariants.{Fresh, Open, Closed}
-use Rattle.search.specs.Graph.{Reaches}
+use Rattle.search.specs.declared.mark.Mark.TheVariants.{Fresh}
 use Rattle.search.specs.Search.{Search, begin}
 use Rattle.search.specs.Laws.{Once, one_more, Acts, nothing, action, finish, Acted, AtRest, FinishedWithAllItReaches}
-use Rattle.search.proofs.Basics.{closed_not_fresh, open_not_fresh, fresh?}
+use Rattle.search.proofs.Basics.{closed_not_fresh, open_not_fresh}
 use Rattle.search_tests.specs.declared.counting.Stage.TheVariants.{New}
-use Rattle.search_tests.specs.Walks.{cycles, counted, counting, marking, EachReachedNodeIsCountedOnce}
+use Rattle.search_tests.specs.Walks.{cycles, counting, marking, EachReachedNodeIsCountedOnce}
 
 module _ {F : Type 0} where
   counts_other : {a b : List ℕ} {l : List ℕ} → Acts (counting {F = F}) a l b → (x : ℕ) → ¬ Memᴰ x l → get_or b x 0 ≡ get_or a x 0

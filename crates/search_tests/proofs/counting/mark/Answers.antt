@@ -1,5 +1,5 @@
 -- What is left to show of `mark`.
-use Rattle.std.proofs.Common.{ℕ, ◌<◌, length, get_or, set, ap, ◌∙◌, arith}
+use Rattle.std.proofs.Common.{◌<◌, length, get_or, set, ap, ◌∙◌, arith}
 use Rattle.search.proofs.Shown.{set_put}
 use Rattle.search_tests.specs.declared.counting.Stage.TheVariants.{New}
 use Rattle.search_tests.specs.Walks.{marking}
