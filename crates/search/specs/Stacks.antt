@@ -1,5 +1,5 @@
 -- What the stack that a caller lends shows of a search.
-use Rattle.std.specs.Prelude.{◌≡◌, ℕ, zero, suc, ◌+◌, ◌-◌, ◌≤◌, min, List, [], ◌∷◌, get_or, slice_index, slice_index_or, slice_set}
+use Rattle.std.specs.Prelude.{◌≡◌, ℕ, zero, suc, ◌+◌, ◌-◌, ◌≤◌, min, List, [], ◌∷◌, slice_index, slice_index_or, slice_set}
 use mathlib.Core.List.{Memᴰ}
 use Rattle.std.proofs.Common.{lit<}
 use Rattle.search.specs.declared.mark.Mark.{Mark}
@@ -16,7 +16,7 @@ zeroth = record { value = 0; below = lit< tt }
 -- the first n nodes, the last of them first
 abbrev pub downward : List Node → ℕ → List ℕ
 downward l zero = []
-downward l (suc n) = (get_or l n zeroth).value ∷ downward l n
+downward l (suc n) = (slice_index_or l n zeroth).value ∷ downward l n
 
 -- the search that marks and a lent stack show
 abbrev pub shown : (ℕ → Mark) → Stack → Search

@@ -1,5 +1,5 @@
 -- A fixed graph, and what two walks do on it.
-use Rattle.std.specs.Prelude.{◌≡◌, ℕ, ◌+◌, ◌%◌, ◌<◌, cond, List, [], ◌∷◌, get_or, Some, None, Option, Result, ◌==◌, slice_index, slice_index_or, slice_set}
+use Rattle.std.specs.Prelude.{◌≡◌, ℕ, ◌+◌, ◌%◌, ◌<◌, cond, List, [], ◌∷◌, Some, None, Option, Result, ◌==◌, slice_index, slice_index_or, slice_set}
 use Rattle.search.specs.Graph.{Reaches}
 use Rattle.search.specs.Search.{Search, begin, Deeds, Ends}
 use Rattle.search.specs.declared.mark.Mark.{Mark}
@@ -57,4 +57,4 @@ EachReachedNodeIsCountedOnce v l = (x : ℕ) → x < 32 → (Reaches cycles v x 
 
 -- a search whose action fails at a node leads from marks to others
 abbrev pub FailsAt : ℕ → ℕ → List Mark → List Mark → Result (Unit {0}) Failed → Type 0
-FailsAt n v old new r = (t : Search) × Ends cycles (failing n) (begin (λ x. get_or old x Fresh)) tt v t tt r × ((x : ℕ) → t.mark x ≡ slice_index_or new x Fresh)
+FailsAt n v old new r = (t : Search) × Ends cycles (failing n) (begin (λ x. slice_index_or old x Fresh)) tt v t tt r × ((x : ℕ) → t.mark x ≡ slice_index_or new x Fresh)

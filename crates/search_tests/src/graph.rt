@@ -1,5 +1,5 @@
 // A fixed graph: a cycle of four nodes with a smaller one inside it, and a cycle of two that it leads to.
-ghost use Rattle.std.specs.Prelude.{◌≡◌, ℕ, ◌+◌, ◌^◌, ◌<◌, length, get_or, Some, slice_index_or};
+ghost use Rattle.std.specs.Prelude.{◌≡◌, ℕ, ◌+◌, ◌^◌, ◌<◌, length, Some, slice_index_or};
 ghost use Rattle.std.specs.Option.{option_map};
 ghost use Rattle.search.specs.declared.mark.Mark.{Mark};
 ghost use Rattle.search.specs.declared.mark.Mark.TheVariants.{Fresh};
@@ -53,7 +53,7 @@ pub fn look(marks: &[Mark; 32], node: Node) -> Mark
 }
 
 pub fn mark(marks: &mut [Mark; 32], node: Node, mark: Mark)
-    ensures { (x : ℕ) → slice_index_or marks.new x Fresh ≡ put (λ y. get_or marks.old y Fresh) node.value mark x }
+    ensures { (x : ℕ) → slice_index_or marks.new x Fresh ≡ put (λ y. slice_index_or marks.old y Fresh) node.value mark x }
 {
     marks[node.number()] = mark;
 }
