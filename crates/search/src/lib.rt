@@ -1,7 +1,7 @@
 // A depth-first search for the cycles of a graph, for every graph of 32 nodes and every action.
 #![tactic(auto)]
 
-ghost use Rattle.std.specs.Prelude.{◌≡◌, ℕ, ◌<◌, ◌≤◌, OnOk};
+ghost use Rattle.std.specs.Prelude.{◌≡◌, ◌<◌, ◌≤◌, OnOk};
 ghost use mathlib.Core.List.{Memᴰ};
 ghost use Rattle.search.specs.Search.{begin, enter as entered, lower, down_to, close, Finishes, Ends};
 ghost use Rattle.search.specs.Laws.{Lawful};

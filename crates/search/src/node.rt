@@ -1,5 +1,5 @@
 // The nodes of a graph.
-ghost use Rattle.std.specs.Prelude.{◌≡◌, ℕ, ◌<◌, ◌≤◌, MatchOption};
+ghost use Rattle.std.specs.Prelude.{◌≡◌, ◌<◌, ◌≤◌, MatchOption};
 
 /// A node of a graph: a number below 32.
 #[derive(Clone, Copy)]

@@ -1,5 +1,5 @@
 // A walk whose action counts its node.
-ghost use Rattle.std.specs.Prelude.{◌≡◌, ℕ, List, replicate, slice_index_or};
+ghost use Rattle.std.specs.Prelude.{◌≡◌, ℕ, List, slice_index_or};
 ghost use Rattle.search.specs.Search.{put};
 ghost use Rattle.search_tests.specs.Walks.{cycles, counting, marking};
 ghost use Rattle.search_tests.specs.declared.counting.Stage.TheVariants.{New};

@@ -1,5 +1,5 @@
 // A walk over lent marks, whose action fails at one node.
-ghost use Rattle.std.specs.Prelude.{◌≡◌, ℕ, slice_index_or};
+ghost use Rattle.std.specs.Prelude.{ℕ, slice_index_or};
 ghost use Rattle.search.specs.declared.mark.Mark.TheVariants.{Fresh};
 ghost use Rattle.search_tests.specs.Walks.{cycles, failing};
 

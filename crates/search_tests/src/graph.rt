@@ -1,5 +1,5 @@
 // A fixed graph: a cycle of four nodes with a smaller one inside it, and a cycle of two that it leads to.
-ghost use Rattle.std.specs.Prelude.{◌≡◌, ℕ, ◌+◌, ◌^◌, ◌<◌, length, Some, slice_index_or};
+ghost use Rattle.std.specs.Prelude.{◌≡◌, ℕ, ◌+◌, ◌^◌, ◌<◌, Some, slice_index_or};
 ghost use Rattle.std.specs.Option.{option_map};
 ghost use Rattle.search.specs.declared.mark.Mark.{Mark};
 ghost use Rattle.search.specs.declared.mark.Mark.TheVariants.{Fresh};
