@@ -8,6 +8,7 @@ mod sample;
 
 use anyhow::anyhow;
 use std::env;
+use std::process::ExitCode;
 
 const HELP: &str = "\
 modlink                                 packs a small bundle of its own and shows it
@@ -45,10 +46,12 @@ fn run(rt: &HostRuntime) -> anyhow::Result<()> {
     }
 }
 
-fn main(rt: HostRuntime) -> anyhow::Result<()> {
-    let result = run(&rt);
-    if let Err(e) = &result {
-        let _ = eprintln!(rt; "modlink: {e}");
+fn main(rt: HostRuntime) -> ExitCode {
+    match run(&rt) {
+        Ok(()) => ExitCode::SUCCESS,
+        Err(e) => {
+            let _ = eprintln!(rt; "modlink: {e}");
+            ExitCode::FAILURE
+        }
     }
-    result
 }

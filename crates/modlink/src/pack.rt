@@ -21,7 +21,7 @@ fn gather(rt: &HostRuntime, mut args: &[String]) -> anyhow::Result<Vec<Packed>> 
     let mut all = Vec::new(rt.alloc());
     while let [kind, key, file, rest @ ..] = args {
         let Some(kind) = kind_named(kind.as_str()) else {
-            return Err(USAGE.into());
+            return Err(anyhow!(USAGE));
         };
         let payload = read_file(rt, file.as_str())?;
         let key = key.clone()?;
@@ -31,7 +31,7 @@ fn gather(rt: &HostRuntime, mut args: &[String]) -> anyhow::Result<Vec<Packed>> 
     if args.is_empty() {
         Ok(all)
     } else {
-        Err(USAGE.into())
+        Err(anyhow!(USAGE))
     }
 }
 
@@ -58,7 +58,7 @@ fn write_bundle(rt: &HostRuntime, out: &str, all: &[Packed]) -> anyhow::Result<(
 
 pub(crate) fn pack_files(rt: &HostRuntime, args: &[String]) -> anyhow::Result<()> {
     let [out, rest @ ..] = args else {
-        return Err(USAGE.into());
+        return Err(anyhow!(USAGE));
     };
     let all = gather(rt, rest)?;
     write_bundle(rt, out.as_str(), all.as_slice())
