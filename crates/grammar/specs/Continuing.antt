@@ -1,5 +1,5 @@
 -- Where a text leaves the grammar.
-use Rattle.std.specs.Prelude.{◌≡◌, ℕ, Bool, true, false, List, [], ◌∷◌, ◌++◌}
+use Rattle.std.specs.Prelude.{◌≡◌, ℕ, List, [], ◌∷◌, ◌++◌}
 use Rattle.lexer.specs.Tokens.{Token, start, Tail, clean, broken}
 use Rattle.grammar.specs.Grammar.{Item, OneItem, Items}
 

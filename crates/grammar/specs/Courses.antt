@@ -1,6 +1,6 @@
 -- What lies ahead of a reader at a byte of the text. The code that reads is proved against it, token by token.
-use Rattle.std.specs.Prelude.{ℕ, zero, suc, ◌-◌, Bool, true, false, cond, List, [], ◌∷◌, length, nat_lt}
-use Rattle.lexer.specs.Tokens.{Token, token, long, Tail, clean, broken, Scan, scan, Lexed, found, malformed, ended}
+use Rattle.std.specs.Prelude.{ℕ, zero, suc, ◌-◌, Bool, cond, List, [], ◌∷◌, length, nat_lt}
+use Rattle.lexer.specs.Tokens.{token, long, Tail, clean, broken, Scan, scan, Lexed, found, malformed, ended}
 use Rattle.grammar.specs.Grammar.{Item, item}
 use Rattle.grammar.specs.Continuing.{next_place}
 use Rattle.grammar.specs.Machine.{Phase, ready, is_ready, Step, fault, go, ends, step, Trace, accepted, stopped, ◌then◌, trace}

@@ -1,8 +1,7 @@
 -- What the items of a text add to its record, one after another, and which of these is refused.
-use Rattle.std.specs.Prelude.{ℕ, suc, Bool, true, false, cond, List, [], ◌∷◌, ◌++◌, length, Some, None, Option, nat_le}
+use Rattle.std.specs.Prelude.{ℕ, suc, Bool, true, false, cond, List, [], ◌∷◌, length, Some, None, Option, nat_le}
 use Rattle.names.specs.Names.{Name, among}
-use Rattle.grammar.specs.Grammar.{Entry, entry, Form, imports, exports, reexports, stars, declares, throws, Item}
-use Rattle.grammar.specs.Items.{each, form}
+use Rattle.grammar.specs.Grammar.{Entry, entry, Form, imports, exports, reexports, stars, declares, throws}
 
 -- What an item adds, in the order of its bytes, and where a byte is the same, of what its denial goes before.
 pub data Event : Type 0 where

@@ -1,7 +1,7 @@
 -- The faults of a text, and which of them decides.
-use Rattle.std.specs.Prelude.{◌≡◌, ℕ, zero, suc, ◌+◌, ◌*◌, ◌<◌, ◌≤◌, Bool, true, false, cond, List, [], ◌∷◌, ◌++◌, Some, None, Option, ◌==◌}
-use Rattle.lexer.specs.Tokens.{Token, token, start, long, Tail, clean, broken, Scan}
-use Rattle.grammar.specs.Grammar.{Item, item, Items}
+use Rattle.std.specs.Prelude.{◌≡◌, ℕ, ◌+◌, ◌*◌, ◌<◌, ◌≤◌, true, cond, List, [], ◌∷◌, ◌++◌, Some, ◌==◌}
+use Rattle.lexer.specs.Tokens.{Token, start, long, broken, Scan}
+use Rattle.grammar.specs.Grammar.{Item, item}
 use Rattle.grammar.specs.Continuing.{Leaves, Front, next_place}
 use Rattle.grammar.specs.Items.{each, form}
 use Rattle.grammar.specs.Events.{Event, byte, events, wrong}

@@ -2,7 +2,7 @@
 use Rattle.std.specs.Prelude.{◌≡◌, ℕ, suc, ◌<◌, Bool, true, false, ◌&&◌, List, [], ◌∷◌, Some, None, codes, Option}
 use Rattle.names.specs.Names.{Name}
 use Rattle.lexer.specs.Words.{identifier}
-use Rattle.lexer.specs.Tokens.{Lexeme, word, quoted, number, mark, Token, token}
+use Rattle.lexer.specs.Tokens.{word, quoted, number, mark, Token, token}
 
 pub data Op : Type 0 where
   plus minus : Op

@@ -1,5 +1,5 @@
 -- The record of a list of items.
-use Rattle.std.specs.Prelude.{ℕ, zero, suc, Bool, true, false, cond, List, [], ◌∷◌, ◌++◌, map}
+use Rattle.std.specs.Prelude.{ℕ, zero, suc, true, false, cond, List, [], ◌∷◌, ◌++◌, map}
 use Rattle.std.specs.Str.{bytes_eq}
 use Rattle.names.specs.Names.{Name, among}
 use Rattle.record.specs.Modules.{Request, Import, Local, Indirect, Star, Declared, Module}

@@ -1,8 +1,8 @@
 -- One token after another: what may come next.
-use Rattle.std.specs.Prelude.{◌≡◌, ℕ, suc, ◌<◌, Bool, true, false, cond, ◌&&◌, List, [], ◌∷◌, ◌++◌, length, Some, None, codes, Option, ◌==◌, nat_lt}
+use Rattle.std.specs.Prelude.{◌≡◌, ℕ, Bool, true, false, cond, List, [], ◌∷◌, ◌++◌, length, Some, None, codes, ◌==◌, nat_lt}
 use Rattle.std.specs.Str.{bytes_eq}
 use Rattle.lexer.specs.Words.{identifier}
-use Rattle.lexer.specs.Tokens.{Lexeme, word, quoted, number, mark, Token, token, long, start}
+use Rattle.lexer.specs.Tokens.{word, quoted, number, mark, Token, token, start}
 use Rattle.grammar.specs.Grammar.{Op, plus, minus, Expr, literal, undefined, named, joined, Entry, entry, Side, inward, outward, Form, imports, exports, reexports, stars, declares, throws, Item, item, admits, identifiers_first}
 
 -- what a factor is to be joined to

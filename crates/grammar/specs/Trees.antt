@@ -1,5 +1,5 @@
 -- What the code's syntax trees stand for.
-use Rattle.std.specs.Prelude.{◌≡◌, ℕ, Bool, List, [], ◌∷◌, map, vec_items, Option}
+use Rattle.std.specs.Prelude.{◌≡◌, ℕ, List, [], ◌∷◌, map, vec_items, Option}
 use Rattle.grammar.specs.Grammar.{Expr, Entry, entry, Form, imports, exports, reexports, stars, declares, throws, Item, item}
 use Rattle.grammar.specs.declared.syntax.Entry as code_entry
 use Rattle.grammar.specs.declared.syntax.Form as code_form

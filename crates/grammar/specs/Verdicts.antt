@@ -2,7 +2,7 @@
 use Rattle.std.specs.Prelude.{ℕ, Bool, true, false, cond, List, [], ◌∷◌, Some, None, Option, nat_lt}
 use Rattle.names.specs.Names.{Name, among}
 use Rattle.lexer.specs.Tokens.{long, Tail, clean, broken, Scan, scanned}
-use Rattle.grammar.specs.Grammar.{Entry, entry, Form, imports, exports, reexports, stars, declares, throws, Item, item}
+use Rattle.grammar.specs.Grammar.{Entry, entry, imports, exports, reexports, stars, declares, throws, Item, item}
 use Rattle.grammar.specs.Continuing.{next_place}
 use Rattle.grammar.specs.Items.{recorded, all_names}
 use Rattle.grammar.specs.Events.{Event, byte, events, wrong}
