@@ -48,13 +48,13 @@ module _ {E : Type 0} (F : Format E) where
   }
 
   -- one of two fronts goes on where the other ends
-  data Goes_on (es : List E) (rest : List ℕ) (fs : List E) (rest' : List ℕ) : Type 0 where
-    alike : es ≡ fs → rest ≡ rest' → Goes_on es rest fs rest'
-    first_longer : (e : E) (more : List E) → es ≡ fs ++ (e ∷ more) → F.encoded e ++ (all_encoded F more ++ rest) ≡ rest' → F.good e ≡ true → Goes_on es rest fs rest'
-    second_longer : (e : E) (more : List E) → fs ≡ es ++ (e ∷ more) → F.encoded e ++ (all_encoded F more ++ rest') ≡ rest → F.good e ≡ true → Goes_on es rest fs rest'
+  data GoesOn (es : List E) (rest : List ℕ) (fs : List E) (rest' : List ℕ) : Type 0 where
+    alike : es ≡ fs → rest ≡ rest' → GoesOn es rest fs rest'
+    first_longer : (e : E) (more : List E) → es ≡ fs ++ (e ∷ more) → F.encoded e ++ (all_encoded F more ++ rest) ≡ rest' → F.good e ≡ true → GoesOn es rest fs rest'
+    second_longer : (e : E) (more : List E) → fs ≡ es ++ (e ∷ more) → F.encoded e ++ (all_encoded F more ++ rest') ≡ rest → F.good e ≡ true → GoesOn es rest fs rest'
 
   module _ (L : LawfulFormat F) where
-    compare_fronts : (es fs : List E) (rest rest' : List ℕ) → every F.good es ≡ true → every F.good fs ≡ true → all_encoded F es ++ rest ≡ all_encoded F fs ++ rest' → Goes_on es rest fs rest'
+    compare_fronts : (es fs : List E) (rest rest' : List ℕ) → every F.good es ≡ true → every F.good fs ≡ true → all_encoded F es ++ rest ≡ all_encoded F fs ++ rest' → GoesOn es rest fs rest'
     compare_fronts [] [] rest rest' g h e = alike refl e
     compare_fronts [] (d ∷ fs) rest rest' g h e = second_longer d fs refl (sym (e ∙ append_assoc (F.encoded d) (all_encoded F fs) rest')) (and_parts _ _ h).0
     compare_fronts (d ∷ es) [] rest rest' g h e = first_longer d es refl (sym (append_assoc (F.encoded d) (all_encoded F es) rest) ∙ e) (and_parts _ _ g).0
@@ -65,7 +65,7 @@ module _ {E : Type 0} (F : Format E) where
         (sym (append_assoc (F.encoded c) (all_encoded F es) rest) ∙ e ∙ append_assoc (F.encoded d) (all_encoded F fs) rest') in
         under same (compare_fronts es fs rest rest' p.1 q.1 tails)
       where
-        under : c ≡ d → Goes_on es rest fs rest' → Goes_on (c ∷ es) rest (d ∷ fs) rest'
+        under : c ≡ d → GoesOn es rest fs rest' → GoesOn (c ∷ es) rest (d ∷ fs) rest'
         under z (alike x y) = alike (cc) y
         under z (first_longer a more x y w) = first_longer a more (cc) y w
         under z (second_longer a more x y w) = second_longer a more (cc) y w
@@ -100,13 +100,13 @@ module _ {E : Type 0} (F : Format E) where
     one_cause es rest Repeated TooMany p q = absurd (let a = p.0 in let b = q.0 in omega arith)
     one_cause es rest Repeated Repeated p q = refl
 
-    fronts : (s : List ℕ) (es fs : List E) (rest rest' : List ℕ) → Front F s es rest → Front F s fs rest' → Goes_on es rest fs rest'
+    fronts : (s : List ℕ) (es fs : List E) (rest rest' : List ℕ) → Front F s es rest → Front F s fs rest' → GoesOn es rest fs rest'
     fronts s es fs rest rest' a b = compare_fronts es fs rest rest' (parts es a.well).each (parts fs b.well).each (a.all ∙ sym b.all)
 
     both_lists : (s : List ℕ) (es fs : List E) → Front F s es [] → Front F s fs [] → es ≡ fs
     both_lists s es fs a b = by (fronts s es fs [] [] a b)
       where
-        by : Goes_on es [] fs [] → es ≡ fs
+        by : GoesOn es [] fs [] → es ≡ fs
         by (alike e r) = e
         by (first_longer e more x y g) = absurd (no_more e _ y)
         by (second_longer e more x y g) = absurd (no_more e _ y)
@@ -114,7 +114,7 @@ module _ {E : Type 0} (F : Format E) where
     list_and_stop : (s : List ℕ) (es : List E) (why : Stop) (byte : ℕ) → Front F s es [] → Stops F s why byte → ⊥
     list_and_stop s es why byte a b = by (fronts s es b.before [] b.rest a b.front)
       where
-        by : Goes_on es [] b.before b.rest → ⊥
+        by : GoesOn es [] b.before b.rest → ⊥
         by (alike e r) = ends why b.refused
           where
             ends : (w : Stop) → Refused F b.before b.rest w → ⊥
@@ -127,7 +127,7 @@ module _ {E : Type 0} (F : Format E) where
     both_stop : (s : List ℕ) (v w : Stop) (m n : ℕ) → Stops F s v m → Stops F s w n → ◌≡◌ {A = Stop × ℕ} (v, m) (w, n)
     both_stop s v w m n a b = by (fronts s a.before b.before a.rest b.rest a.front b.front)
       where
-        by : Goes_on a.before a.rest b.before b.rest → ◌≡◌ {A = Stop × ℕ} (v, m) (w, n)
+        by : GoesOn a.before a.rest b.before b.rest → ◌≡◌ {A = Stop × ℕ} (v, m) (w, n)
         by (alike e r) =
             let q : Refused F a.before a.rest w = subst (λ x. Refused F x a.rest w) (sym e) (subst (λ x. Refused F b.before x w) (sym r) b.refused) in
             let z : v ≡ w = one_cause a.before a.rest v w a.refused q in
