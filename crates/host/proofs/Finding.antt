@@ -1,6 +1,5 @@
 -- A loop that looks for the first that passes a test, and what it finds.
-use Rattle.std.proofs.Common.{◌≡◌, ℕ, zero, suc, ◌+◌, ◌-◌, ◌<◌, ◌≤◌, Bool, true, false, cond, not, ◌&&◌, ◌||◌, leb, List, [], ◌∷◌, ◌++◌, map, length, get_or, take, drop, is_some, Some, None, Option, sym, refl, ap, ◌∙◌, add-one, arith, length-append, Bor}
-use native.Mathlib.Nat.{sub-zero}
+use Rattle.std.proofs.Common.{◌≡◌, ℕ, zero, suc, ◌+◌, ◌<◌, ◌≤◌, Bool, true, false, cond, not, ◌&&◌, ◌||◌, leb, List, [], ◌∷◌, map, length, get_or, take, drop, is_some, Some, None, Option, sym, refl, ap, ◌∙◌, arith, length-append, Bor}
 use lib.ListN.{length-map}
 use lib.Seq.{split_at}
 use Rattle.std.specs.List.{slice_get}
@@ -74,10 +73,10 @@ module _ (rs : List (Bor (List ℕ))) (i : ℕ) (d : Bor (List ℕ)) (l : i < le
   }
 
   -- and may
-  pub one_more : misplaced (all_now (take i rs)) (now (get_or rs i d)) ≡ false → holdable (all_now (take (i + 1) rs)) ≡ true
+  pub one_more : misplaced (all_now (take i rs)) ((get_or rs i d).now) ≡ false → holdable (all_now (take (i + 1) rs)) ≡ true
   one_more m =
       let ks = all_now (take i rs) in
-      let x = now (get_or rs i d) in
+      let x = (get_or rs i d).now in
       let u = or_parts (leb 32 (length ks)) (not (key x) || among ks x) m in
       let few = leb-false 32 (length ks) u.0 in
       let v = or_parts (not (key x)) (among ks x) u.1 in
@@ -85,7 +84,7 @@ module _ (rs : List (Bor (List ℕ))) (i : ℕ) (d : Bor (List ℕ)) (l : i < le
       let a = v.1 in
       let q = and_parts (every key ks) (distinct ks && leb (length ks) 32) well in
       let s = and_parts (distinct ks) (leb (length ks) 32) q.1 in
-      ap (λ r. holdable (all_now r)) (take_more rs i d l) ∙ ap holdable (map-append now (take i rs) (get_or rs i d ∷ [])) ∙ and_from _ _ (every_append key ks (x ∷ []) ∙ and_from _ _ q.0 (and_from _ _ k refl)) (and_from _ _ (distinct_push ks x s.0 a) (le-leb _ 32 (let n = length-append ks (x ∷ []) in omega arith)))
+      ap (λ r. holdable (all_now r)) (take_more rs i d l) ∙ ap holdable (map-append (λ x. x.now) (take i rs) (get_or rs i d ∷ [])) ∙ and_from _ _ (every_append key ks (x ∷ []) ∙ and_from _ _ q.0 (and_from _ _ k refl)) (and_from _ _ (distinct_push ks x s.0 a) (le-leb _ 32 (let n = length-append ks (x ∷ []) in omega arith)))
 
 module _ (rs : List (Bor (List ℕ))) (x : Name) where
   pub misplaced_33rd : 32 ≤ length rs → true ≡ misplaced (all_now rs) x

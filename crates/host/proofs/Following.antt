@@ -1,5 +1,5 @@
 -- Where a specifier leads among the keys held, and the laws of the file host.
-use Rattle.std.proofs.Common.{◌≡◌, ℕ, zero, suc, ◌+◌, ◌<◌, ◌≤◌, Bool, true, false, cond, not, ◌&&◌, ◌||◌, leb, List, [], ◌∷◌, ◌++◌, map, length, get_or, Some, None, codes, Decides, Option, sym, refl, ap, ◌∙◌, subst, append_assoc, append-nil, add-one, arith, length-append, Bor}
+use Rattle.std.proofs.Common.{◌≡◌, ℕ, zero, suc, ◌<◌, Bool, true, false, cond, ◌&&◌, leb, List, [], ◌∷◌, ◌++◌, map, length, get_or, Some, None, codes, Decides, Option, sym, refl, ap, ◌∙◌, subst, append_assoc, append-nil, add-one, arith, Bor}
 use lib.ListN.{length-map}
 use Rattle.std.specs.List.{slice_get}
 use Rattle.std.specs.Option.{option_map}
@@ -8,13 +8,13 @@ use Rattle.std.proofs.lemmas.Slice.Eq.{bytes_eq-Decides}
 use Rattle.std.proofs.lemmas.List.{get_or-map, nil_from_length}
 use Rattle.std.proofs.lemmas.Bool.{and_parts, and_from, cond-true, false≢true, true≢false}
 use Rattle.names.specs.Names.{Name, every, distinct}
-use Rattle.names.specs.Keys.{key, parts, path, not_slash}
+use Rattle.names.specs.Keys.{key, parts, path}
 use Rattle.names.proofs.Every.{every_append}
 use Rattle.names.proofs.Keys.{path_parts}
-use Rattle.host.specs.Paths.{and_then, without_last, parent, walked, relative}
+use Rattle.host.specs.Paths.{and_then, parent, walked, relative}
 use Rattle.host.specs.Holding.{first_place, place_of, holdable, all_now}
 use Rattle.host.specs.FileHosts.{directory, ordinary, led_to, file_hosting, LeadsToPlace, FollowsPaths, plain_part, way, PlainSpecifiersLeadDown, WaysBetweenHeldKeysAreFound}
-use Rattle.host.specs.Lawful.{held_at, is_held_key, every_at}
+use Rattle.host.specs.Lawful.{is_held_key, every_at}
 use Rattle.host.proofs.Walks.{never, then_some, walked_append, last_one, parent_push}
 use Rattle.host.proofs.Numbered.{at_its_place, no_key_there}
 use Rattle.host.proofs.Leading.{slashless, every_weaker, every_without_last, walked_ordinary, key_ordinary, from_directory, parts_slashless, walked_keeps, parts_of_path, relative_more, relative_begins, begins_relative, walks_so, so_walks}

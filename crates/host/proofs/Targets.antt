@@ -65,7 +65,7 @@ module _ (j x : Name) where
   not_silent r t e h = clash (sym e ∙ ap (says j x) (sym h) ∙ says_its_own t)
 
   none_said : (rows : List Row) → joined_all bytes_eq (map (says j x) rows) ≡ Nothing → (t : Name) → ¬ Memᴰ (row_of j x t) rows
-  none_said [] e t m = Memᴰ.not_nil m
+  none_said [] e t m = Memᴰ.not-nil m
   none_said (r ∷ rows) e t m = by (joined_nothing (says j x r) (joined_all bytes_eq (map (says j x) rows)) e) (λ f. none_said rows f t) (Memᴰ.cases_cons m)
     where
       by : (says j x r ≡ Nothing) × (joined_all bytes_eq (map (says j x) rows) ≡ Nothing) → (joined_all bytes_eq (map (says j x) rows) ≡ Nothing → ¬ Memᴰ (row_of j x t) rows) → (row_of j x t ≡ r) ⊎ Memᴰ (row_of j x t) rows → ⊥

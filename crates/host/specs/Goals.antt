@@ -1,5 +1,5 @@
 -- What going back over the parts of a specifier gives.
-use Rattle.std.specs.Prelude.{◌≡◌, ℕ, List, [], ◌∷◌, ◌++◌, length, Some, None, Option}
+use Rattle.std.specs.Prelude.{◌≡◌, List, [], ◌∷◌, ◌++◌, length, Some, None, Option}
 use Rattle.std.specs.Option.{option_map}
 use Rattle.names.specs.Names.{Name}
 use Rattle.names.specs.Keys.{parts}

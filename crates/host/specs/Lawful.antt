@@ -12,9 +12,9 @@ use Rattle.names.proofs.Keys.{key_decides}
 use Rattle.outcome.specs.declared.Outcome.{Outcome}
 use Rattle.outcome.specs.declared.Outcome.TheVariants.{Nothing, One, Several}
 use Rattle.outcome.specs.Joining.{joined_all}
-use Rattle.record.specs.Meanings.{Hosting, LawfulHost}
+use Rattle.record.specs.Meanings.{LawfulHost}
 use Rattle.host.specs.Paths.{and_then, walked, relative}
-use Rattle.host.specs.Holding.{first_place, place_of, holdable}
+use Rattle.host.specs.Holding.{place_of, holdable}
 use Rattle.host.specs.FileHosts.{directory, led_to, file_hosting}
 use Rattle.host.specs.MappedHosts.{Row, says, placed, mapped_to, mapped_hosting}
 

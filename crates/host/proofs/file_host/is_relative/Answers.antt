@@ -1,9 +1,9 @@
-use Rattle.std.proofs.Common.{◌≡◌, ◌||◌, codes, sym, refl, ap, ◌∙◌}
+use Rattle.std.proofs.Common.{◌||◌, codes, sym, ap, ◌∙◌}
 use Rattle.std.specs.Option.{option_map}
 use Rattle.std.specs.Str.{bytes_eq}
 use Rattle.std.proofs.lemmas.Bool.{or_left}
 use Rattle.host.proofs.Backwards.{still_some}
-use Rattle.host.proofs.Leading.{relative_split, not_relative}
+use Rattle.host.proofs.Leading.{relative_split}
 use Rattle.host.proofs.file_host.is_relative.Goals as goal
 
 pub returns-then-same_name : goal.returns-then-same_name

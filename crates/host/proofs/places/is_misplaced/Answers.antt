@@ -1,4 +1,4 @@
-use Rattle.std.proofs.Common.{◌≡◌, is_some, sym, refl, ap, ◌∙◌}
+use Rattle.std.proofs.Common.{is_some, sym, ap, ◌∙◌}
 use Rattle.host.proofs.Finding.{misplaced_33rd, misplaced_no_key, misplaced_again}
 use Rattle.host.proofs.places.is_misplaced.Goals as goal
 

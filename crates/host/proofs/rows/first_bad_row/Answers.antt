@@ -1,4 +1,4 @@
-use Rattle.std.proofs.Common.{◌≡◌, ℕ, List, [], sym, refl, ap, ◌∙◌, Bor}
+use Rattle.std.proofs.Common.{ℕ, List, [], sym, ap, ◌∙◌, Bor}
 use Rattle.std.proofs.lemmas.List.{take_all}
 use Rattle.host.specs.MappedHosts.{plain_all, good_rows}
 use Rattle.host.specs.declared.row.Row as code

@@ -1,7 +1,7 @@
-use Rattle.std.proofs.Common.{◌≡◌, [], ◌∷◌, length, sym, refl, ap, ◌∙◌, arith}
+use Rattle.std.proofs.Common.{length, sym, ap, ◌∙◌, arith}
 use Rattle.std.proofs.lemmas.Slice.Eq.{bytes_eq-Decides}
 use Rattle.host.specs.Goals.{aim}
-use Rattle.host.proofs.Walks.{back_empty, back_here, back_out}
+use Rattle.host.proofs.Walks.{back_here, back_out}
 use Rattle.host.proofs.walk.before_part.Goals as goal
 
 pub returns-then-same_name-2 : goal.returns-then-same_name-2

@@ -1,8 +1,8 @@
-use Rattle.std.proofs.Common.{◌≡◌, List, [], ◌∷◌, ◌++◌, Some, None, sym, refl, ap, ◌∙◌, subst, arith, MatchOption}
+use Rattle.std.proofs.Common.{Some, None, sym, subst, arith}
 use Rattle.std.specs.Option.{option_map}
 use Rattle.names.specs.Keys.{parts}
 use Rattle.host.specs.Goals.{SplitsLast, GoesBack}
-use Rattle.host.proofs.Backwards.{Gone, gone_none, gone_more, gone_wrong, gone_all, front_shorter, part_fits}
+use Rattle.host.proofs.Backwards.{gone_none, gone_more, gone_wrong, gone_all, front_shorter, part_fits}
 use Rattle.host.proofs.walk.before_path.Goals as goal
 
 pub loop-goal-init : goal.loop-goal-init
@@ -16,8 +16,8 @@ loop-goal-preserved c =
     let split = subst (λ o. SplitsLast c.loop-goal.rest.now (option_map (λ x. x.now) o) c.split_last.result.1.now) c.in-Some.is c.split_last.ensures in
     let l = c.loop-goal.invariant.1 in
     let n = front_shorter c.loop-goal.rest.now c.in-Some.more.now c.split_last.result.1.now split in
-    let m = c.in-ok-goal.ensures.size in
-    (gone_more c.args.path.now c.loop-goal.rest.now (Some c.in-Some.more.now) c.split_last.result.1.now c.args.goal c.loop-goal.goal split c.loop-goal.invariant.0 c.in-ok-goal.goal c.in-ok-goal.ensures.back, omega arith)
+    let m = c.in_ok-goal.ensures.size in
+    (gone_more c.args.path.now c.loop-goal.rest.now (Some c.in-Some.more.now) c.split_last.result.1.now c.args.goal c.loop-goal.goal split c.loop-goal.invariant.0 c.in_ok-goal.goal c.in_ok-goal.ensures.back, omega arith)
 
 pub loop-goal-smaller : goal.loop-goal-smaller
 loop-goal-smaller c =
@@ -25,16 +25,16 @@ loop-goal-smaller c =
     let n = front_shorter c.loop-goal.rest.now c.in-Some.more.now c.split_last.result.1.now split in
     omega arith
 
-pub returns-in-err-goal : goal.returns-in-err-goal
-returns-in-err-goal c =
-    let wrong = gone_wrong c.args.path.now c.loop-goal.rest.now _ c.split_last.result.1.now c.args.goal c.loop-goal.goal c.split_last.ensures c.loop-goal.invariant.0 c.in-err-goal.ensures.back in
-    record { back = subst (GoesBack (parts c.args.path.now) c.args.goal) (sym c.from-residual.ensures) wrong; size = rw c.from-residual.ensures tt }
+pub returns-in_err-goal : goal.returns-in_err-goal
+returns-in_err-goal c =
+    let wrong = gone_wrong c.args.path.now c.loop-goal.rest.now _ c.split_last.result.1.now c.args.goal c.loop-goal.goal c.split_last.ensures c.loop-goal.invariant.0 c.in_err-goal.ensures.back in
+    record { back = subst (GoesBack (parts c.args.path.now) c.args.goal) (sym c.from_residual.ensures) wrong; size = rw c.from_residual.ensures tt }
 
 pub returns-in-None : goal.returns-in-None
 returns-in-None c =
     let split = subst (λ o. SplitsLast c.loop-goal.rest.now (option_map (λ x. x.now) o) c.split_last.result.1.now) c.in-None.is c.split_last.ensures in
-    let gone = gone_more c.args.path.now c.loop-goal.rest.now None c.split_last.result.1.now c.args.goal c.loop-goal.goal split c.loop-goal.invariant.0 c.in-ok-goal.goal c.in-ok-goal.ensures.back in
+    let gone = gone_more c.args.path.now c.loop-goal.rest.now None c.split_last.result.1.now c.args.goal c.loop-goal.goal split c.loop-goal.invariant.0 c.in_ok-goal.goal c.in_ok-goal.ensures.back in
     let l = c.loop-goal.invariant.1 in
     let n = part_fits c.loop-goal.rest.now None c.split_last.result.1.now split in
-    let m = c.in-ok-goal.ensures.size in
-    record { back = gone_all c.args.path.now c.args.goal c.in-ok-goal.goal gone; size = omega arith }
+    let m = c.in_ok-goal.ensures.size in
+    record { back = gone_all c.args.path.now c.args.goal c.in_ok-goal.goal gone; size = omega arith }
