@@ -1,11 +1,10 @@
 -- A loop that looks for the first that passes a test, and what it finds.
 use Rattle.std.proofs.Common.{◌≡◌, ℕ, zero, suc, ◌+◌, ◌<◌, ◌≤◌, Bool, true, false, cond, not, ◌&&◌, ◌||◌, leb, List, [], ◌∷◌, map, length, get_or, take, drop, is_some, Some, None, Option, sym, refl, ap, ◌∙◌, arith, length-append, Bor}
-use lib.ListN.{length-map}
-use lib.Seq.{split_at}
+use Rattle.std.proofs.Math.Seq.{split_at}
 use Rattle.std.specs.List.{slice_get}
 use Rattle.std.specs.Option.{option_map}
 use Rattle.std.specs.Str.{bytes_eq}
-use Rattle.std.proofs.lemmas.List.{take_all, take_more, map-append, get_or-map, length-take-le}
+use Rattle.std.proofs.lemmas.List.{length-map, take_all, take_more, map-append, get_or-map, length-take-le}
 use Rattle.std.proofs.lemmas.Option.{slice_get-get_or, slice_get_past}
 use Rattle.std.proofs.lemmas.Bool.{and_parts, and_from, or_parts, cond-true, cond-false, not-true, not-false, not_from_true, not_from_false, or_left, or_right, le-leb, lt-leb, leb-false}
 use Rattle.names.specs.Names.{Name, among, distinct, every}

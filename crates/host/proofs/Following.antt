@@ -1,11 +1,10 @@
 -- Where a specifier leads among the keys held, and the laws of the file host.
 use Rattle.std.proofs.Common.{◌≡◌, ℕ, zero, suc, ◌<◌, Bool, true, false, cond, ◌&&◌, leb, List, [], ◌∷◌, ◌++◌, map, length, get_or, Some, None, codes, Decides, Option, sym, refl, ap, ◌∙◌, subst, append_assoc, append-nil, add-one, arith, Bor}
-use lib.ListN.{length-map}
 use Rattle.std.specs.List.{slice_get}
 use Rattle.std.specs.Option.{option_map}
 use Rattle.std.specs.Str.{bytes_eq}
 use Rattle.std.proofs.lemmas.Slice.Eq.{bytes_eq-Decides}
-use Rattle.std.proofs.lemmas.List.{get_or-map, nil_from_length}
+use Rattle.std.proofs.lemmas.List.{length-map, get_or-map, nil_from_length}
 use Rattle.std.proofs.lemmas.Bool.{and_parts, and_from, cond-true, false≢true, true≢false}
 use Rattle.names.specs.Names.{Name, every, distinct}
 use Rattle.names.specs.Keys.{key, parts, path}

@@ -1,8 +1,7 @@
 // Places of keys, and which keys a host can hold.
-ghost use Rattle.std.specs.Prelude.{◌≡◌, true, MatchOption};
+ghost use Rattle.std.specs.Prelude.{◌≡◌, true, MatchOption, MatchResult};
 ghost use Rattle.std.specs.List.{slice_get};
 ghost use Rattle.std.specs.Option.{option_map};
-ghost use Rattle.std.specs.Result as results;
 ghost use Rattle.host.specs.Holding.{all_now, place_of, holdable, misplaced, FirstMisplaced, refused_at, Holds, RefusesKeys};
 
 use names::{is_key, same_name};
@@ -72,7 +71,7 @@ pub(crate) fn refused(number: usize) -> Denial
 
 // A copy of the keys, if a host can hold them.
 pub(crate) fn hold<'a>(heap: Global, keys: &[&'a [u8]]) -> Result<Vec<&'a [u8]>, Denial>
-    ensures { results.MatchResult result (λ v. Holds (all_now keys.now) (all_now v.items)) (RefusesKeys (all_now keys.now)) }
+    ensures { MatchResult result (λ v. Holds (all_now keys.now) (all_now v.items)) (RefusesKeys (all_now keys.now)) }
 {
     if let Some(n) = first_misplaced(keys) {
         return Err(refused(n));

@@ -1,4 +1,4 @@
-use Rattle.std.proofs.Common.{ℕ, List, [], sym, ap, ◌∙◌, Bor}
+use Rattle.std.proofs.Common.{ℕ, List, [], sym, ap, ◌∙◌, arith, Bor}
 use Rattle.std.proofs.lemmas.List.{take_all}
 use Rattle.host.specs.MappedHosts.{plain_all, good_rows}
 use Rattle.host.specs.declared.row.Row as code
@@ -9,7 +9,7 @@ none : code.Row
 none = let r : Bor (List ℕ) = record { ref_ptr = (0, 0); now = [] } in record { referrer = r; specifier = r; target = r }
 
 pub returns-then-i-ge-MAX_ROWS : goal.returns-then-i-ge-MAX_ROWS
-returns-then-i-ge-MAX_ROWS c = a_65th c.args.rows.now c.loop-i.i none c.loop-i-test.true c.loop-i.invariant c.if-i-ge-MAX_ROWS.true
+returns-then-i-ge-MAX_ROWS c = a_65th c.args.rows.now c.loop-i.i none c.loop-i-test.true c.loop-i.invariant (omega arith)
 
 pub returns-then-not-is_good : goal.returns-then-not-is_good
 unfolding none

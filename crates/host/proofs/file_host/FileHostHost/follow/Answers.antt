@@ -1,5 +1,4 @@
-use Rattle.std.proofs.Common.{vec_items, ap, ◌∙◌}
-use Rattle.std.specs.List.{slice_get}
+use Rattle.std.proofs.Common.{◌≡◌, true, ap, ◌∙◌, rules}
 use Rattle.names.specs.Names.{every}
 use Rattle.names.specs.Keys.{key}
 use Rattle.host.specs.Holding.{all_now}
@@ -8,8 +7,8 @@ use Rattle.host.proofs.file_host.FileHostHost.follow.Goals as goal
 
 pub place_led_to-requires : goal.place_led_to-requires
 place_led_to-requires c =
-    let ks = all_now (vec_items c.args.self.now.keys) in
-    let keys = all_keys ks c.args.self.now.ok in (
+    let keys = all_keys (all_now c.args.self.now.keys.items) c.args.self.now.ok in
+    let these : every key (all_now c.as_slice.result.now) ≡ true = ap (λ rs. every key (all_now rs)) c.as_slice.ensures.value ∙ keys in (
       ap (λ rs. every key (all_now rs)) c.as_slice-2.ensures.value ∙ keys,
-      key_at_place ks c.args.place c.in_ok-referrer.referrer.now keys (c.in_ok-referrer.ensures ∙ ap (λ rs. slice_get (all_now rs) c.args.place) c.as_slice.ensures.value),
+      search (rules, key_at_place),
     )
