@@ -1,9 +1,13 @@
 -- The parts of a path, and what a key is.
-use Rattle.std.proofs.Common.{◌≡◌, ℕ, ◌+◌, ◌-◌, ◌<◌, ◌≤◌, Bool, true, false, cond, not, ◌&&◌, eqb, leb, List, [], ◌∷◌, ◌++◌, length, get_or, take, drop, Some, None, Decides, Option, sym, refl, ap, ◌∙◌, add-one, arith, length-append}
+use Rattle.std.proofs.Common.{MatchOption, ltb, ltb-true, ltb-false, ◌≡◌, ℕ, ◌+◌, ◌-◌, ◌<◌, ◌≤◌, Bool, true, false, cond, not, ◌&&◌, eqb, leb, List, [], ◌∷◌, ◌++◌, length, take, drop, Some, None, Decides, Option, sym, refl, ap, ◌∙◌, arith}
+use mathlib.Core.Path.{subst⁻¹}
 use native.Mathlib.Nat.{sub-zero}
-use lib.Seq.{split_at}
-use Rattle.std.proofs.lemmas.List.{take_rest, take_all}
-use Rattle.std.proofs.lemmas.Bool.{and_parts, and_from, and_left, true≢false, eqb-true, leb-true, le-leb, not-true}
+use Rattle.std.specs.List.{position, position_or_len}
+use Rattle.std.proofs.lemmas.List.{take_rest}
+use Rattle.std.proofs.lemmas.List.Elements.{All-from_get_or}
+use Rattle.std.proofs.lemmas.List.Splits.{slice_split_none, slice_split_first, join_with_byte-slice_split}
+use Rattle.std.proofs.lemmas.List.Sums.{split_at_first, passes_at_first, fails_before_first}
+use Rattle.std.proofs.lemmas.Bool.{and_parts, and_from, true≢false, eqb-true, leb-true, le-leb, not-true}
 use Rattle.names.specs.Names.{Name, every}
 use Rattle.names.specs.Keys.{segment_byte, segment, path, Key, before, parts, key, not_slash, Splits}
 
@@ -19,11 +23,6 @@ parts_cut (c ∷ a) b h =
     let p = and_parts (not_slash c) (every not_slash a) h in
     ap (λ t. cond t ([] ∷ parts (a ++ (47 ∷ b))) (before c (parts (a ++ (47 ∷ b))))) (not-true (eqb c 47) p.0) ∙ ap (before c) (parts_cut a b p.1)
 
-path_before : (b : ℕ) (xs : List Name) → path (before b xs) ≡ b ∷ path xs
-path_before b [] = refl
-path_before b (x ∷ []) = refl
-path_before b (x ∷ (y ∷ ys)) = refl
-
 -- there is a part
 some_part : (s : Name) → (x : Name) × (xs : List Name) × (parts s ≡ x ∷ xs)
 some_part [] = ([], [], refl)
@@ -33,17 +32,9 @@ some_part (b ∷ s) = by (eqb b 47) (some_part s)
     by true (x, xs, e) = ([], parts s, refl)
     by false (x, xs, e) = (b ∷ x, xs, ap (before b) e)
 
-path_slash : (s : Name) → path ([] ∷ parts s) ≡ 47 ∷ path (parts s)
-path_slash s = let (x, xs, e) = some_part s in ap (λ l. path ([] ∷ l)) e ∙ sym (ap (λ l. 47 ∷ path l) e)
-
 -- the parts joined again are the path
 pub path_parts : (k : Name) → path (parts k) ≡ k
-path_parts [] = refl
-path_parts (b ∷ s) = by (eqb b 47) refl (path_parts s)
-  where
-    by : (t : Bool) → eqb b 47 ≡ t → path (parts s) ≡ s → path (cond t ([] ∷ parts s) (before b (parts s))) ≡ b ∷ s
-    by true e h = path_slash s ∙ ap (λ l. 47 ∷ l) h ∙ ap (λ c. c ∷ s) (sym (eqb-true b 47 e))
-    by false e h = path_before b (parts s) ∙ ap (λ l. b ∷ l) h
+path_parts k = join_with_byte-slice_split 47 k
 
 byte_not_slash : (b : ℕ) → segment_byte b ≡ true → not_slash b ≡ true
 byte_not_slash b h = by (eqb b 47) refl
@@ -80,38 +71,31 @@ key_decides k = (is, was)
         let e : parts k ≡ q.first ∷ q.rest = sym (ap parts q.joined) ∙ parts_path q.first q.rest q.good in
         and_from (leb (length k) 63) (every segment (parts k)) (le-leb (length k) 63 q.short) (ap (every segment) e ∙ q.good)
 
--- the first `/` stands at i
-pub splits_at : (p : Name) (i : ℕ) → every not_slash (take i p) ≡ true → i < length p → get_or p i 0 ≡ 47 → Splits p (take (i - 0) p) (Some (take (length p - (i + 1)) (drop (i + 1) p)))
-splits_at p i h l e =
-    let more : take (length p - (i + 1)) (drop (i + 1) p) ≡ drop (i + 1) p = take_rest p (i + 1) in
-    let here : take i p ++ (47 ∷ drop (i + 1) p) ≡ p =
-    ap (λ b. take i p ++ (b ∷ drop (i + 1) p)) (sym e) ∙ ap (λ k. take i p ++ (get_or p i 0 ∷ drop k p)) (add-one i) ∙ sym (split_at p i 0 l) in
-    rw (sub-zero, more) (sym (ap parts here) ∙ parts_cut (take i p) (drop (i + 1) p) h, here)
+abbrev pub is_slash : ℕ → Bool
+is_slash b = eqb b 47
 
--- there is none
-pub splits_nowhere : (p : Name) (i : ℕ) → every not_slash (take i p) ≡ true → length p ≤ i → Splits p p None
-splits_nowhere p i h l = (parts_last p (sym (ap (every not_slash) (take_all i p l)) ∙ h), refl)
+-- a path comes apart at the first `/` that a search from the front finds, or is one part where it finds none
+pub splits : (p : Name) (r : Option ℕ) → r ≡ position is_slash p → MatchOption r (Splits p p None) (λ i. Splits p (take (i - 0) p) (Some (take (length p - (i + 1)) (drop (i + 1) p))))
+splits p r e = by (ltb n (length p)) refl e
+  where
+    n : ℕ
+    n = position_or_len is_slash p
 
--- the first part is no segment
-pub first_fails : (p x : Name) (o : Option Name) → Splits p x o → segment x ≡ false → every segment (parts p) ≡ false
-first_fails p x None h e = ap (every segment) h.0 ∙ and_left (segment x) true e
-first_fails p x (Some more) h e = ap (every segment) h.0 ∙ and_left (segment x) (every segment (parts more)) e
+    Is : Option ℕ → Type 0
+    Is r = MatchOption r (Splits p p None) (λ i. Splits p (take (i - 0) p) (Some (take (length p - (i + 1)) (drop (i + 1) p))))
 
--- the only part is a segment
-pub last_passes : (p x : Name) (o : Option Name) → Splits p x o → o ≡ None → segment x ≡ true → every segment (parts p) ≡ true
-last_passes p x None h n e = ap (every segment) h.0 ∙ and_from (segment x) true e refl
-last_passes p x (Some more) h n e = absurd (let z : ◌≡◌ {A = ℕ} 0 1 = cc in omega arith)
+    found : n < length p → Is (Some n)
+    found l =
+        let more : take (length p - (n + 1)) (drop (n + 1) p) ≡ drop (n + 1) p = take_rest p (n + 1) in
+        let here : take n p ++ (47 ∷ drop (n + 1) p) ≡ p = ap (λ b. take n p ++ (b ∷ drop (n + 1) p)) (sym (eqb-true _ 47 (passes_at_first is_slash p 0 l))) ∙ sym (split_at_first is_slash p 0 l) in
+        rw (sub-zero, more) (slice_split_first is_slash p 0 l, here)
 
--- what the loop over the parts of k has found, where it ends at a path p with these parts
-pub answers : (k p : Name) (r : Bool) → length k ≤ 63 → every segment (parts p) ≡ every segment (parts k) → every segment (parts p) ≡ r → r ≡ key k
-answers k p r l h e = sym e ∙ h ∙ ap (λ t. t && every segment (parts k)) (sym (le-leb (length k) 63 l))
+    by : (t : Bool) → ltb n (length p) ≡ t → r ≡ cond t (Some n) None → Is r
+    by true l q = subst⁻¹ Is q (found (ltb-true _ _ l))
+    by false l q = subst⁻¹ Is q (slice_split_none is_slash p (All-from_get_or (λ x. is_slash x ≡ false) p 0 (λ i h. fails_before_first is_slash p i 0 (let k = ltb-false n (length p) l in omega (arith, h, k)))), refl)
 
-pub decided : (k : Name) (r : Bool) → r ≡ key k → Decides r (Key k)
-decided k r e = (λ t. (key_decides k).0 (sym e ∙ t), λ q. e ∙ (key_decides k).1 q)
-
-pub rest_shorter : (p x : Name) (o : Option Name) (more : Name) → Splits p x o → o ≡ Some more → length more < length p
-rest_shorter p x None more h e = absurd (let z : ◌≡◌ {A = ℕ} 0 1 = cc in omega arith)
-rest_shorter p x (Some m) more h e =
-    let q : m ≡ more = cc in
-    let n = ap length h.1 in
-    omega (arith, length-append x (47 ∷ m), n, ap length q)
+-- whether all parts are segments tells whether a path that is short enough is a key
+pub decided : (k : Name) (r : Bool) → length k ≤ 63 → r ≡ every segment (parts k) → (r ≡ key k) × Decides r (Key k)
+decided k r l e =
+    let q : r ≡ key k = e ∙ ap (λ t. t && every segment (parts k)) (sym (le-leb (length k) 63 l)) in
+    (q, (λ t. (key_decides k).0 (sym q ∙ t), λ h. q ∙ (key_decides k).1 h))

@@ -1,5 +1,6 @@
 -- Keys: segments joined by `/`.
-use Rattle.std.specs.Prelude.{◌≡◌, ℕ, ◌≤◌, Bool, true, cond, not, ◌&&◌, ◌||◌, List, [], ◌∷◌, ◌++◌, length, Some, None, codes, Option, ◌==◌, nat_le}
+use Rattle.std.specs.Prelude.{◌≡◌, ℕ, ◌≤◌, Bool, true, not, ◌&&◌, ◌||◌, List, [], ◌∷◌, ◌++◌, length, Some, None, codes, Option, ◌==◌, nat_le}
+use Rattle.std.specs.List.{slice_split, onto_first, join_with_byte}
 use Rattle.std.specs.Str.{bytes_eq}
 use Rattle.names.specs.Names.{Name, every}
 use Rattle.names.specs.Words.{between, digit}
@@ -14,9 +15,7 @@ segment s = every segment_byte s && (not (bytes_eq s []) && (not (bytes_eq s (co
 
 -- segments with `/` between them
 abbrev pub path : List Name → Name
-path [] = []
-path (x ∷ []) = x
-path (x ∷ (y ∷ ys)) = x ++ (47 ∷ path (y ∷ ys))
+path xs = join_with_byte 47 xs
 
 -- a key: one or more segments joined, at most 63 bytes
 pub record Key (k : Name) : Type 0 where
@@ -31,13 +30,11 @@ not_slash b = not (b == 47)
 
 -- the first byte goes before the first part
 abbrev pub before : ℕ → List Name → List Name
-before b [] = (b ∷ []) ∷ []
-before b (x ∷ xs) = (b ∷ x) ∷ xs
+before b xs = onto_first b xs
 
 -- the parts of a path between its `/`
 abbrev pub parts : Name → List Name
-parts [] = [] ∷ []
-parts (b ∷ s) = cond (b == 47) ([] ∷ parts s) (before b (parts s))
+parts s = slice_split (λ b. b == 47) s
 
 -- a path comes apart at its first `/` into a first part and the rest, or is one part
 abbrev pub Splits : Name → Name → Option Name → Type 0

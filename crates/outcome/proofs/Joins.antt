@@ -1,9 +1,10 @@
 -- Order, bracketing and repetition do not affect a join.
-use Rattle.std.proofs.Common.{◌≡◌, ℕ, suc, Bool, true, false, cond, List, [], ◌∷◌, ◌++◌, length, Decides, sym, refl, ap, ◌∙◌, append-nil, arith}
+use Rattle.std.proofs.Common.{◌≡◌, ℕ, Bool, true, false, cond, List, [], ◌∷◌, ◌++◌, Decides, sym, refl, ap, ◌∙◌, arith}
 use mathlib.Core.List.{Memᴰ}
+use Rattle.std.specs.List.{fold}
 use Rattle.outcome.specs.declared.Outcome.{Outcome}
 use Rattle.outcome.specs.declared.Outcome.TheVariants.{Nothing, One, Several}
-use Rattle.outcome.specs.Joining.{joined, joined_all, by_value, valued, OrderBracketingAndRepetitionDoNotAffectAJoin}
+use Rattle.outcome.specs.Joining.{joined, joined_all, by_value, valued, valued_all, OrderBracketingAndRepetitionDoNotAffectAJoin}
 
 module _ {A : Type 0} (same : A → A → Bool) (D : (x y : A) → Decides (same x y) (x ≡ y)) where
   pick : A → Bool → Outcome A
@@ -103,20 +104,19 @@ module _ {A V : Type 0} (value : A → V) (same : V → V → Bool) where
   valued_joined (One x) Several = refl
   valued_joined Several b = refl
 
-module _ {A : Type 0} (same : A → A → Bool) (D : (x y : A) → Decides (same x y) (x ≡ y)) where
-  with_nothing : (o : Outcome A) → joined same o Nothing ≡ o
+module _ {A V : Type 0} (value : A → V) (same : V → V → Bool) (D : (x y : V) → Decides (same x y) (x ≡ y)) where
+  with_nothing : (o : Outcome V) → o ≡ joined same o Nothing
   with_nothing Nothing = refl
   with_nothing (One x) = refl
   with_nothing Several = refl
 
-  -- one more at the end
-  pub joined_all_push : (os : List (Outcome A)) (o : Outcome A) → joined_all same (os ++ (o ∷ [])) ≡ joined same (joined_all same os) o
-  joined_all_push os o = (laws same D).lists_bracketing os (o ∷ []) ∙ ap (joined same (joined_all same os)) (with_nothing o)
+  folded_onto : (os : List (Outcome A)) (a : Outcome A) → valued value (fold (joined (by_value value same)) a os) ≡ joined same (valued value a) (joined_all same (valued_all value os))
+  folded_onto [] a = with_nothing (valued value a)
+  folded_onto (o ∷ os) a =
+      folded_onto os (joined (by_value value same) a o)
+      ∙ ap (λ q. joined same q (joined_all same (valued_all value os))) (valued_joined value same a o)
+      ∙ (laws same D).bracketing (valued value a) (valued value o) (joined_all same (valued_all value os))
 
--- a list that has come to its end
-pub come_to_end : {A : Type 0} (before rest all : List A) → length rest ≡ 0 → before ++ rest ≡ all → before ≡ all
-come_to_end before [] all n e = sym (append-nil before) ∙ e
-come_to_end before (x ∷ rest) all n e = absurd (never n)
-  where
-    never : suc (length rest) ≡ 0 → ⊥
-    never h = omega arith
+  -- joined one after another, from the front
+  pub folded : (os : List (Outcome A)) → valued value (fold (joined (by_value value same)) Nothing os) ≡ joined_all same (valued_all value os)
+  folded os = folded_onto os Nothing

@@ -14,7 +14,8 @@ pub enum Outcome<T> {
     Several,
 }
 
-// Things with an equality, which looks at a value of theirs: of a reference, at what it refers to.
+// Things with an equality, which looks at a value of theirs: of a reference, at what it refers to. `PartialEq` alone promises an
+// equivalence and knows no value, and no law of joins follows from that.
 pub trait Same {
     ghost Value: { Type 0 };
 
@@ -39,7 +40,7 @@ impl Same for (usize, usize) {
     ghost decides = { same_pair_decides };
 
     fn same_as(&self, other: &(usize, usize)) -> bool {
-        self.0 == other.0 && self.1 == other.1
+        self == other
     }
 }
 
@@ -76,6 +77,7 @@ fn join_one<T: Same + Drop>(x: T, b: Outcome<T>) -> Outcome<T>
 }
 
 // Nothing joined with an outcome is that outcome; equal ones join to it; different ones, or several with anything, give several.
+#[tactic(auto, using(crate::proofs::Joins::laws))]
 pub fn join<T: Same + Drop>(a: Outcome<T>, b: Outcome<T>) -> Outcome<T>
     ensures joins { result ≡ joined (by_value T.value T.same) a b }
     ensures values { valued T.value result ≡ joined T.same (valued T.value a) (valued T.value b) }
@@ -89,13 +91,10 @@ pub fn join<T: Same + Drop>(a: Outcome<T>, b: Outcome<T>) -> Outcome<T>
 }
 
 // A whole list joined; an empty one gives nothing.
+#[tactic(auto, using(crate::proofs::Joins::laws))]
 pub fn join_all<T: Same + Drop>(outcomes: Vec<Outcome<T>>) -> Outcome<T>
     ensures values { valued T.value result ≡ joined_all T.same (valued_all T.value outcomes.items) }
     ensures laws { OrderBracketingAndRepetitionDoNotAffectAJoin T.same }
 {
-    let mut all = Outcome::Nothing;
-    for o in outcomes {
-        all = join(all, o);
-    }
-    all
+    outcomes.into_iter().fold(Outcome::Nothing, join)
 }
