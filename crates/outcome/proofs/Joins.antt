@@ -104,14 +104,19 @@ module _ {A V : Type 0} (value : A → V) (same : V → V → Bool) where
   valued_joined (One x) Several = refl
   valued_joined Several b = refl
 
-module _ {A V : Type 0} (value : A → V) (same : V → V → Bool) (D : (x y : V) → Decides (same x y) (x ≡ y)) where
-  with_nothing : (o : Outcome V) → o ≡ joined same o Nothing
+module _ {A : Type 0} (same : A → A → Bool) (D : (x y : A) → Decides (same x y) (x ≡ y)) where
+  with_nothing : (o : Outcome A) → joined same o Nothing ≡ o
   with_nothing Nothing = refl
   with_nothing (One x) = refl
   with_nothing Several = refl
 
+  -- one more at the end
+  pub joined_all_push : (os : List (Outcome A)) (o : Outcome A) → joined_all same (os ++ (o ∷ [])) ≡ joined same (joined_all same os) o
+  joined_all_push os o = (laws same D).lists_bracketing os (o ∷ []) ∙ ap (joined same (joined_all same os)) (with_nothing o)
+
+module _ {A V : Type 0} (value : A → V) (same : V → V → Bool) (D : (x y : V) → Decides (same x y) (x ≡ y)) where
   folded_onto : (os : List (Outcome A)) (a : Outcome A) → valued value (fold (joined (by_value value same)) a os) ≡ joined same (valued value a) (joined_all same (valued_all value os))
-  folded_onto [] a = with_nothing (valued value a)
+  folded_onto [] a = sym (with_nothing same D (valued value a))
   folded_onto (o ∷ os) a =
       folded_onto os (joined (by_value value same) a o)
       ∙ ap (λ q. joined same q (joined_all same (valued_all value os))) (valued_joined value same a o)
