@@ -1,6 +1,6 @@
 // What a bundle holds, line by line.
 use crate::kind::word_of;
-use anyhow::anyhow;
+use anyhow::{anyhow, bail};
 use bundle::{Entry, PayloadKind};
 use names::Shown;
 use std::fs;
@@ -13,10 +13,7 @@ fn show_list(rt: &HostRuntime, place: usize, payload: &[u8]) -> anyhow::Result<(
                 println!(rt; "    {} = {value}", Shown(cell.name.as_bytes()))?;
             }
         }
-        Err(fault) => {
-            let denial = fault.at(place);
-            println!(rt; "    {denial}")?;
-        }
+        Err(fault) => println!(rt; "    {}", fault.at(place))?,
     }
     Ok(())
 }
@@ -53,15 +50,12 @@ pub(crate) fn show_bundle(rt: &HostRuntime, bytes: &[u8]) -> anyhow::Result<()> 
 }
 
 pub(crate) fn read_file(rt: &HostRuntime, path: &str) -> anyhow::Result<Vec<u8>> {
-    match fs::read(rt, path) {
-        Ok(bytes) => Ok(bytes),
-        Err(e) => Err(anyhow!(format!(in rt.alloc(); "cannot read {path}: {e}")?)),
-    }
+    fs::read(rt, path).map_err(|e| anyhow!("cannot read {path}: {e}"))
 }
 
 pub(crate) fn inspect_file(rt: &HostRuntime, args: &[String]) -> anyhow::Result<()> {
     let [path] = args else {
-        return Err(anyhow!("inspect takes one bundle: modlink inspect BUNDLE"));
+        bail!("inspect takes one bundle: modlink inspect BUNDLE");
     };
     let bytes = read_file(rt, path.as_str())?;
     show_bundle(rt, bytes.as_slice())

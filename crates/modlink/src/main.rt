@@ -6,7 +6,7 @@ mod kind;
 mod pack;
 mod sample;
 
-use anyhow::anyhow;
+use anyhow::bail;
 use std::env;
 use std::process::ExitCode;
 
@@ -17,25 +17,17 @@ modlink pack OUT [text|list KEY FILE].. writes a bundle of these files
 modlink help                            shows this";
 
 fn arguments(rt: &HostRuntime) -> anyhow::Result<Vec<String>> {
-    let mut args = Vec::new(rt.alloc());
-    for arg in env::args(rt)?.skip(1) {
-        args.push(arg)?;
-    }
-    Ok(args)
+    Ok(env::args(rt)?.skip(1).collect(rt.alloc())?)
 }
 
 fn perform(rt: &HostRuntime, command: &str, rest: &[String]) -> anyhow::Result<()> {
     match command {
-        "help" | "--help" | "-h" => {
-            println!(rt; "{HELP}")?;
-            Ok(())
-        }
-        "inspect" => inspect::inspect_file(rt, rest),
-        "pack" => pack::pack_files(rt, rest),
-        _ => Err(anyhow!(format!(in rt.alloc();
-            "no command `{command}`; `modlink help` lists them"
-        )?)),
+        "help" | "--help" | "-h" => println!(rt; "{HELP}")?,
+        "inspect" => inspect::inspect_file(rt, rest)?,
+        "pack" => pack::pack_files(rt, rest)?,
+        _ => bail!("no command `{command}`; `modlink help` lists them"),
     }
+    Ok(())
 }
 
 fn run(rt: &HostRuntime) -> anyhow::Result<()> {

@@ -1,7 +1,7 @@
 // Bundles from files.
 use crate::inspect::read_file;
 use crate::kind::kind_named;
-use anyhow::anyhow;
+use anyhow::{anyhow, bail};
 use bundle::{Entry, PayloadKind};
 use std::fs;
 
@@ -16,49 +16,49 @@ struct Packed {
     payload: Vec<u8>,
 }
 
-// The modules that the arguments name, three words each, with their files' contents.
-fn gather(rt: &HostRuntime, mut args: &[String]) -> anyhow::Result<Vec<Packed>> {
-    let mut all = Vec::new(rt.alloc());
-    while let [kind, key, file, rest @ ..] = args {
-        let Some(kind) = kind_named(kind.as_str()) else {
-            return Err(anyhow!(USAGE));
-        };
-        let payload = read_file(rt, file.as_str())?;
-        let key = key.clone()?;
-        all.push(Packed { kind, key, payload })?;
-        args = rest;
-    }
-    if args.is_empty() {
-        Ok(all)
-    } else {
-        Err(anyhow!(USAGE))
+impl Packed {
+    fn entry(&self) -> Entry<'_> {
+        Entry {
+            kind: self.kind,
+            key: self.key.as_bytes(),
+            payload: self.payload.as_slice(),
+        }
     }
 }
 
+// The module that three words name, with its file's contents.
+fn load(rt: &HostRuntime, words: &[String]) -> anyhow::Result<Packed> {
+    let [kind, key, file] = words else {
+        bail!(USAGE);
+    };
+    let Some(kind) = kind_named(kind.as_str()) else {
+        bail!(USAGE);
+    };
+    let payload = read_file(rt, file.as_str())?;
+    let key = key.clone()?;
+    Ok(Packed { kind, key, payload })
+}
+
+// The modules that the arguments name, three words each.
+fn gather(rt: &HostRuntime, args: &[String]) -> anyhow::Result<Vec<Packed>> {
+    let mut all = Vec::new(rt.alloc());
+    for words in args.chunks(3) {
+        all.push(load(rt, words)?)?;
+    }
+    Ok(all)
+}
+
 fn write_bundle(rt: &HostRuntime, out: &str, all: &[Packed]) -> anyhow::Result<()> {
-    let mut entries = Vec::new(rt.alloc());
-    for p in all {
-        entries.push(Entry {
-            kind: p.kind,
-            key: p.key.as_bytes(),
-            payload: p.payload.as_slice(),
-        })?;
-    }
-    match bundle::write(rt.alloc(), entries.as_slice()) {
-        Ok(bytes) => {
-            if let Err(e) = fs::write(rt, out, bytes.as_slice()) {
-                return Err(anyhow!(format!(in rt.alloc(); "cannot write {out}: {e}")?));
-            }
-            println!(rt; "{out}: {} bytes, modules: {}", bytes.len(), entries.len())?;
-            Ok(())
-        }
-        Err(denial) => Err(anyhow!(format!(in rt.alloc(); "{denial}")?)),
-    }
+    let entries: Vec<Entry<'_>> = all.iter().map(Packed::entry).collect(rt.alloc())?;
+    let bytes = bundle::write(rt.alloc(), &entries)?;
+    fs::write(rt, out, &bytes).map_err(|e| anyhow!("cannot write {out}: {e}"))?;
+    println!(rt; "{out}: {} bytes, modules: {}", bytes.len(), entries.len())?;
+    Ok(())
 }
 
 pub(crate) fn pack_files(rt: &HostRuntime, args: &[String]) -> anyhow::Result<()> {
     let [out, rest @ ..] = args else {
-        return Err(anyhow!(USAGE));
+        bail!(USAGE);
     };
     let all = gather(rt, rest)?;
     write_bundle(rt, out.as_str(), all.as_slice())

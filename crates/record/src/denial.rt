@@ -6,7 +6,7 @@ ghost use Rattle.record.specs.declared.denial.Denial.{Denial};
 use crate::value::FaultCause;
 
 // Why a call is denied. Each has a number but want of memory, which arises only where something is made.
-#[derive(Clone, Copy)]
+#[derive(Clone, Copy, Debug)]
 pub enum Cause {
     UnknownKey,
     UnresolvedSpecifier,
@@ -51,7 +51,7 @@ impl Cause {
 }
 
 // A refusal: its cause, the module's place if it names one, and a byte of that module's payload or of the bundle.
-#[derive(Clone, Copy)]
+#[derive(Clone, Copy, Debug)]
 pub struct Denial {
     pub cause: Cause,
     pub place: Option<usize>,

@@ -1,6 +1,7 @@
 // Values and denials as people read them.
 use crate::denial::{Cause, Denial};
 use crate::value::{FaultCause, Value};
+use std::error::Error;
 use std::fmt;
 
 impl fmt::Display for Value {
@@ -67,3 +68,5 @@ impl fmt::Display for Denial {
         write!(f, " byte {} ({})", self.byte, self.cause)
     }
 }
+
+impl Error for Denial {}

@@ -1,7 +1,7 @@
 // Values, the cells that hold them, and the faults of bodies.
 
 // `undefined`, or a 64-bit IEEE 754 number, all NaN patterns being one value.
-#[derive(Clone, Copy)]
+#[derive(Clone, Copy, Debug)]
 pub enum Value {
     Undefined,
     Number(f64),
@@ -14,7 +14,7 @@ pub enum Cell {
     Full(Value),
 }
 
-#[derive(Clone, Copy)]
+#[derive(Clone, Copy, Debug)]
 pub enum FaultCause {
     // an undeclared name, or an empty cell, was read
     Reference,
