@@ -1,27 +1,25 @@
--- The cells of all modules, as a list of rows, one for each place.
-use Rattle.std.specs.Prelude.{◌≡◌, ℕ, ◌<◌, List, [], length, replicate, slice_index_or, slice_set}
+-- The cells of all modules, as a list of rows, one for each place; a cell is empty, `None`, or holds a value.
+use Rattle.std.specs.Prelude.{◌≡◌, ℕ, ◌<◌, List, [], length, replicate, slice_index_or, slice_set, Option, Some, None}
 use Rattle.record.specs.declared.value.Value.{Value}
-use Rattle.record.specs.declared.value.Cell.{Cell}
-use Rattle.record.specs.declared.value.Cell.TheVariants.{Empty, Full}
 
 -- a place, and the index of a cell of the module there
 abbrev pub Binding : Type 0
 Binding = ℕ × ℕ
 
-abbrev pub blank : List (List Cell)
-blank = replicate 32 (replicate 32 Empty)
+abbrev pub blank : List (List (Option Value))
+blank = replicate 32 (replicate 32 None)
 
 -- the cells of one module
-abbrev pub row : List (List Cell) → ℕ → List Cell
+abbrev pub row : List (List (Option Value)) → ℕ → List (Option Value)
 row rows m = slice_index_or rows m []
 
 -- 32 rows of 32 cells
-abbrev pub Square : List (List Cell) → Type 0
+abbrev pub Square : List (List (Option Value)) → Type 0
 Square rows = (length rows ≡ 32) × ((m : ℕ) → m < 32 → length (row rows m) ≡ 32)
 
 -- what a binding's cell holds
-abbrev pub held : List (List Cell) → Binding → Cell
-held rows b = slice_index_or (row rows b.0) b.1 Empty
+abbrev pub held : List (List (Option Value)) → Binding → Option Value
+held rows b = slice_index_or (row rows b.0) b.1 None
 
-abbrev pub stored : List (List Cell) → Binding → Value → List (List Cell)
-stored rows b v = slice_set rows b.0 (slice_set (row rows b.0) b.1 (Full v))
+abbrev pub stored : List (List (Option Value)) → Binding → Value → List (List (Option Value))
+stored rows b v = slice_set rows b.0 (slice_set (row rows b.0) b.1 (Some v))

@@ -2,7 +2,7 @@
 use Rattle.std.specs.Prelude.{◌≡◌, ℕ, ◌<◌, true, List, length, Some, None, Ok, Err, Option, Result}
 use Rattle.names.specs.Names.{Name}
 use Rattle.names.specs.Keys.{Key}
-use Rattle.record.specs.declared.value.Cell.{Cell}
+use Rattle.record.specs.declared.value.Value.{Value}
 use Rattle.record.specs.declared.value.Fault.{Fault}
 use Rattle.record.specs.declared.denial.LoadFault.{LoadFault}
 use Rattle.record.specs.Cells.{Binding}
@@ -27,18 +27,18 @@ pub data Reading : Type 0 where
 -- how a body ended, and what its module's cells hold then
 pub record Ended : Type 0 where
   pub fault : Option Fault
-  pub cells : List Cell
+  pub cells : List (Option Value)
 
 pub record Kinding : Type 0 where
   pub reading : ℕ → Reading
   -- the body at a place: from the cells that its imports lead to, what those hold, and what its own module's cells hold
-  pub body : ℕ → List Binding → List Cell → List Cell → Ended
+  pub body : ℕ → List Binding → List (Option Value) → List (Option Value) → Ended
   -- what a run of the body at a place adds to the trail
   pub adds : ℕ → ℕ
 
 pub record LawfulKind (k : Kinding) : Type 0 where
   pub records_are_well_formed : (m : ℕ) (r : Module) → k.reading m ≡ readable r → well_formed r ≡ true
-  pub bodies_keep_the_number_of_cells : (m : ℕ) (bs : List Binding) (held own : List Cell) → length (k.body m bs held own).cells ≡ length own
+  pub bodies_keep_the_number_of_cells : (m : ℕ) (bs : List Binding) (held own : List (Option Value)) → length (k.body m bs held own).cells ≡ length own
 
 -- a body's end, as a run answers it
 abbrev pub answer : Option Fault → Result (Unit {0}) Fault

@@ -16,28 +16,25 @@ impl Cells {
         ensures { result.rows ≡ blank }
     {
         Cells {
-            rows: [[Cell::Empty; 32]; 32],
+            rows: [[None; 32]; 32],
         }
     }
 
     // What a cell holds; where there is none, it is empty.
+    // Its place and its index are two arguments: a body knows its own place, and has no pair of them to pass.
     pub fn get(&self, place: usize, cell: usize) -> Cell
         ensures { result ≡ held self.now.rows (place, cell) }
     {
-        if place < 32 && cell < 32 {
-            self.rows[place][cell]
-        } else {
-            Cell::Empty
-        }
+        *self.rows.get(place)?.get(cell)?
     }
 
     // Stores a value to a cell, if there is one.
     pub fn store(&mut self, place: usize, cell: usize, value: Value)
         ensures { self.new.rows ≡ stored self.old.rows (place, cell) value }
     {
-        let full = Cell::Full(value);
+        // By index: of what a write through a slice's `get_mut` leaves, a proof knows the length alone.
         if place < 32 && cell < 32 {
-            self.rows[place][cell] = full;
+            self.rows[place][cell] = Some(value);
         }
     }
 }

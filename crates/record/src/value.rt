@@ -8,11 +8,7 @@ pub enum Value {
 }
 
 // A module's variable: empty until the module's body stores to it.
-#[derive(Clone, Copy)]
-pub enum Cell {
-    Empty,
-    Full(Value),
-}
+pub type Cell = Option<Value>;
 
 #[derive(Clone, Copy, Debug)]
 pub enum FaultCause {

@@ -13,14 +13,10 @@ impl Host for OneKey {
     ghost lawful = { λ _. lawful_hosting };
 
     fn seek(&self, key: &[u8]) -> Option<usize> {
-        if same_name(key, b"a") { Some(0) } else { None }
+        same_name(key, b"a").then_some(0)
     }
 
     fn follow(&self, place: usize, specifier: &[u8]) -> Option<usize> {
-        if place == 0 && same_name(specifier, b"./a") {
-            Some(0)
-        } else {
-            None
-        }
+        (place == 0 && same_name(specifier, b"./a")).then_some(0)
     }
 }

@@ -1,6 +1,6 @@
 use crate::one_cell::OneCell;
 use crate::one_key::OneKey;
-use record::{Cell, Cells, Host, Kind, Value};
+use record::{Cells, Host, Kind, Value};
 use std::test::Fail;
 
 #[test]
@@ -18,8 +18,8 @@ fn a_run_stores_to_its_own_module(rt: HostRuntime) -> Result<(), Fail> {
     assert!(rt; kind.read(7).is_ok());
     let mut cells = Cells::new();
     assert!(rt; kind.run(3, &[], &mut cells).is_ok());
-    assert!(rt; matches!(cells.get(3, 0), Cell::Full(Value::Undefined)));
-    assert!(rt; matches!(cells.get(2, 0), Cell::Empty));
+    assert!(rt; matches!(cells.get(3, 0), Some(Value::Undefined)));
+    assert!(rt; matches!(cells.get(2, 0), None));
     assert_eq!(rt; kind.trail_count(), 1);
     Ok(())
 }

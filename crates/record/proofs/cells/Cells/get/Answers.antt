@@ -1,5 +1,0 @@
-use Rattle.record.proofs.Rows.{held_outside}
-use Rattle.record.proofs.cells.Cells.get.Goals as goal
-
-pub returns-else-place-lt32 : goal.returns-else-place-lt32
-returns-else-place-lt32 c = held_outside c.args.self.now.rows c.args.place c.args.cell c.args.self.now.square c.else-place-lt32.either
