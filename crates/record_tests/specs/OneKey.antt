@@ -1,7 +1,8 @@
 -- What the host of one key means.
-use Rattle.std.specs.Prelude.{◌≡◌, ℕ, ◌<◌, Bool, true, false, cond, ◌&&◌, Some, None, codes, Option, ◌==◌, refl}
+use Rattle.std.specs.Prelude.{◌≡◌, ℕ, ◌<◌, Bool, cond, ◌&&◌, Some, None, codes, Option, ◌==◌}
 use Rattle.std.proofs.Common.{sym, ◌∙◌, ap, arith}
 use Rattle.std.specs.Str.{bytes_eq}
+use Rattle.std.proofs.lemmas.Option.{cond_some}
 use Rattle.std.proofs.lemmas.Slice.Eq.{bytes_eq-Decides}
 use Rattle.names.specs.Names.{Name}
 use Rattle.names.specs.Keys.{Key}
@@ -16,15 +17,10 @@ abbrev pub hosting : Hosting
 hosting = record { seek = λ k. zero_if (bytes_eq k (codes "a")); follow = λ m x. zero_if (m == 0 && bytes_eq x (codes "./a")) }
 
 below : (t : Bool) (m : ℕ) → zero_if t ≡ Some m → m < 32
-below true m e = let z : 0 ≡ m = cc in omega arith
-below false m e = absurd (let z : ◌≡◌ {A = ℕ} 0 1 = cc in omega arith)
-
-holds : (t : Bool) (m : ℕ) → zero_if t ≡ Some m → t ≡ true
-holds true m e = refl
-holds false m e = absurd (let z : ◌≡◌ {A = ℕ} 0 1 = cc in omega arith)
+below t m e = let z = (cond_some t 0 m e).1 in omega arith
 
 is_a : (k : Name) (m : ℕ) → hosting.seek k ≡ Some m → k ≡ codes "a"
-is_a k m e = (bytes_eq-Decides k (codes "a")).0 (holds (bytes_eq k (codes "a")) m e)
+is_a k m e = (bytes_eq-Decides k (codes "a")).0 (cond_some (bytes_eq k (codes "a")) 0 m e).0
 
 pub lawful_hosting : LawfulHost hosting
 lawful_hosting = record {

@@ -20,24 +20,24 @@ impl OneCell {
     pub fn new(heap: Global, value: Value) -> Result<OneCell, AllocError>
         ensures { IfOk result (λ k. plain k.same ≡ one_cell) }
     {
-        let mut cells = Vec::new(heap);
-        cells.push(CellEntry {
-            name: Name::new(heap, b"x")?,
-            byte: 0,
-        })?;
-        let mut locals = Vec::new(heap);
-        locals.push(LocalExport {
-            export_name: Name::new(heap, b"x")?,
-            cell: 0,
-            byte: 0,
-        })?;
         let same = Record {
             requests: Vec::new(heap),
             imports: Vec::new(heap),
-            locals,
+            locals: vec![in heap;
+                LocalExport {
+                    export_name: Name::new(heap, b"x")?,
+                    cell: 0,
+                    byte: 0,
+                },
+            ]?,
             indirects: Vec::new(heap),
             stars: Vec::new(heap),
-            cells,
+            cells: vec![in heap;
+                CellEntry {
+                    name: Name::new(heap, b"x")?,
+                    byte: 0,
+                },
+            ]?,
         };
         Ok(OneCell {
             same,

@@ -1,7 +1,6 @@
 // A host that holds the key `a` at place 0, whose module may follow `./a` to itself.
 ghost use Rattle.record_tests.specs.OneKey.{hosting, lawful_hosting};
 
-use names::same_name;
 use record::Host;
 
 #[derive(Clone, Copy)]
@@ -13,10 +12,10 @@ impl Host for OneKey {
     ghost lawful = { λ _. lawful_hosting };
 
     fn seek(&self, key: &[u8]) -> Option<usize> {
-        same_name(key, b"a").then_some(0)
+        (key == b"a".as_slice()).then_some(0)
     }
 
     fn follow(&self, place: usize, specifier: &[u8]) -> Option<usize> {
-        (place == 0 && same_name(specifier, b"./a")).then_some(0)
+        (place == 0 && specifier == b"./a".as_slice()).then_some(0)
     }
 }

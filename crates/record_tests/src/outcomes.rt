@@ -22,16 +22,17 @@ fn bindings_join(rt: HostRuntime) -> Result<(), Fail> {
             Outcome::One((3, 4))
         )
     );
-    let mut all = Vec::new(rt.alloc());
     assert!(rt;
         matches!(
             join_all::<(usize, usize)>(Vec::new(rt.alloc())),
             Outcome::Nothing
         )
     );
-    all.push(Outcome::One((1, 2)))?;
-    all.push(Outcome::Nothing)?;
-    all.push(Outcome::One((1, 2)))?;
+    let all = vec![in rt.alloc();
+        Outcome::One((1, 2)),
+        Outcome::Nothing,
+        Outcome::One((1, 2)),
+    ]?;
     assert!(rt; matches!(join_all(all), Outcome::One((1, 2))));
     Ok(())
 }
