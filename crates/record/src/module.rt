@@ -46,6 +46,7 @@ pub struct CellEntry {
     pub byte: usize,
 }
 
+// Its entries name requests and cells by index: a record cannot borrow from itself.
 #[derive(Drop)]
 pub struct Record {
     pub requests: Vec<Request>,

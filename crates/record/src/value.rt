@@ -1,4 +1,5 @@
 // Values, the cells that hold them, and the faults of bodies.
+use thiserror::Error;
 
 // `undefined`, or a 64-bit IEEE 754 number, all NaN patterns being one value.
 #[derive(Clone, Copy, Debug)]
@@ -10,10 +11,12 @@ pub enum Value {
 // A module's variable: empty until the module's body stores to it.
 pub type Cell = Option<Value>;
 
-#[derive(Clone, Copy, Debug)]
+#[derive(Clone, Copy, Debug, Error)]
 pub enum FaultCause {
     // an undeclared name, or an empty cell, was read
+    #[error("reference")]
     Reference,
+    #[error("throw {0}")]
     Thrown(Value),
 }
 
