@@ -11,7 +11,6 @@ use Rattle.record.specs.declared.module.StarExport.{StarExport}
 use Rattle.record.specs.declared.module.CellEntry.{CellEntry}
 use Rattle.record.specs.declared.module.Record.{Record}
 use Rattle.record.specs.Modules.{Request, Import, Local, Indirect, Star, Declared, Module}
-use Rattle.record.specs.Meanings.{Reading, unreadable, readable}
 
 abbrev pub request : rust_request.Request → Request
 request q = record { specifier = bytes_of q.specifier; byte = q.byte }
@@ -43,6 +42,6 @@ plain r = record {
 }
 
 -- what a read answers, by its contents
-abbrev pub read_answer : Result (Bor Record) LoadFault → Reading
-read_answer (Ok r) = readable (plain r.now)
-read_answer (Err f) = unreadable f
+abbrev pub read_answer : Result (Bor Record) LoadFault → Result Module LoadFault
+read_answer (Ok r) = Ok (plain r.now)
+read_answer (Err f) = Err f

@@ -1,7 +1,6 @@
 // Record kinds: which record stands at a place, and what its body does.
-ghost use Rattle.std.specs.Prelude.{◌≡◌, ℕ, ◌+◌, ◌%◌, ◌^◌, map};
-ghost use Rattle.record.specs.Cells.{row, held};
-ghost use Rattle.record.specs.Meanings.{Kinding, LawfulKind, answer};
+ghost use Rattle.std.specs.Prelude.{◌≡◌, ℕ, ◌+◌, ◌%◌, ◌^◌};
+ghost use Rattle.record.specs.Meanings.{Kinding, LawfulKind};
 ghost use Rattle.record.specs.Plain.{read_answer};
 ghost use Rattle.record.specs.Runs.{Runs};
 

@@ -2,6 +2,7 @@
 use thiserror::Error;
 
 // `undefined`, or a 64-bit IEEE 754 number, all NaN patterns being one value.
+// Not an `Option`: `undefined` is a value, and what an empty cell holds is none.
 #[derive(Clone, Copy, Debug)]
 pub enum Value {
     Undefined,
@@ -11,6 +12,7 @@ pub enum Value {
 // A module's variable: empty until the module's body stores to it.
 pub type Cell = Option<Value>;
 
+// Not an `Option`: reading what is not there is a cause, as throwing is.
 #[derive(Clone, Copy, Debug, Error)]
 pub enum FaultCause {
     // an undeclared name, or an empty cell, was read
@@ -21,6 +23,7 @@ pub enum FaultCause {
 }
 
 // What a body ended in: the cause, and the byte of the name or of `throw` in the module's payload.
+// A struct beside `LoadFault`: one generic in the cause would have no method that serves both.
 #[derive(Clone, Copy)]
 pub struct Fault {
     pub cause: FaultCause,

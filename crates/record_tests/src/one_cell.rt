@@ -1,5 +1,5 @@
 // A record kind in which each place reads as the same record, with one exported cell `x`, to which the body stores a value.
-ghost use Rattle.std.specs.Prelude.{◌≡◌, ◌^◌, ◌<◌, true, IfOk};
+ghost use Rattle.std.specs.Prelude.{◌≡◌, true, IfOk};
 ghost use Rattle.record.specs.Modules.{well_formed};
 ghost use Rattle.record.specs.Plain.{plain};
 ghost use Rattle.record_tests.specs.OneCell.{storing, storing_lawful, one_cell};
