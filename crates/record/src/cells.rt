@@ -21,7 +21,7 @@ impl Cells {
     }
 
     // What a cell holds; where there is none, it is empty.
-    // Its place and its index are two arguments: a body knows its own place, and has no pair of them to pass.
+    // Place and cell are two arguments: a body has its own place and a cell's index at hand, and no pair.
     pub fn get(&self, place: usize, cell: usize) -> Cell
         ensures { result ≡ held self.now.rows (place, cell) }
     {
