@@ -28,5 +28,3 @@ impl fmt::Display for Denial {
         write!(f, " byte {} ({})", self.byte, self.cause)
     }
 }
-
-impl Error for Denial {}
