@@ -1,97 +1,74 @@
--- A loop that looks for the first that passes a test, and what it finds.
-use Rattle.std.proofs.Common.{◌≡◌, ℕ, zero, suc, ◌+◌, ◌<◌, ◌≤◌, Bool, true, false, cond, not, ◌&&◌, ◌||◌, leb, List, [], ◌∷◌, map, length, get_or, take, drop, is_some, Some, None, Option, sym, refl, ap, ◌∙◌, arith, length-append, Bor}
+-- The place of a name among others, and the first of a list that may not stand in its place.
+use Rattle.std.proofs.Common.{◌≡◌, ℕ, zero, suc, ◌+◌, ◌<◌, ◌≤◌, Bool, true, false, cond, not, ◌&&◌, ◌||◌, leb, ltb, List, [], ◌∷◌, ◌++◌, map, length, get_or, take, drop, Some, None, MatchOption, Option, sym, refl, ap, ◌∙◌, add-one, arith, length-append, Bor}
 use Rattle.std.proofs.Math.Seq.{split_at}
-use Rattle.std.specs.List.{slice_get}
+use Rattle.std.specs.List.{position, position_or_len, list_any}
 use Rattle.std.specs.Option.{option_map}
 use Rattle.std.specs.Str.{bytes_eq}
-use Rattle.std.proofs.lemmas.List.{length-map, take_all, take_more, map-append, get_or-map, length-take-le}
-use Rattle.std.proofs.lemmas.Option.{slice_get-get_or, slice_get_past}
-use Rattle.std.proofs.lemmas.Bool.{and_parts, and_from, or_parts, cond-true, cond-false, not-true, not-false, not_from_true, not_from_false, or_left, or_right, le-leb, lt-leb, leb-false}
+use Rattle.std.proofs.lemmas.List.{length-map, take_all, map_more, map-append, length-take-le}
+use Rattle.std.proofs.lemmas.List.Sums.{position_or_len_is}
+use Rattle.std.proofs.lemmas.Bool.{and_parts, and_from, or_parts, cond-true, cond-false, not-false, lt-ltb, le-leb, leb-false}
+use Rattle.std.proofs.lemmas.Bool.Decides.{nat_tests}
 use Rattle.names.specs.Names.{Name, among, distinct, every}
 use Rattle.names.specs.Keys.{key}
 use Rattle.names.proofs.Every.{every_append}
 use Rattle.names.proofs.Distinct.{distinct_push}
-use Rattle.host.specs.Holding.{first_place, place_of, holdable, all_now, misplaced, FirstMisplaced}
-
--- does not pass
-abbrev pub fails : {A : Type 0} → (A → Bool) → A → Bool
-fails p x = not (p x)
+use Rattle.host.specs.Holding.{all_now, holdable, misplaced, FirstBad}
 
 module _ {A : Type 0} (p : A → Bool) where
-  pub found : (xs : List A) (i : ℕ) (d : A) → every (fails p) (take i xs) ≡ true → i < length xs → p (get_or xs i d) ≡ true → Some i ≡ first_place p xs
-  found [] i d h l e = absurd (omega arith)
-  found (x ∷ xs) zero d h l e = sym (cond-true _ _ _ e)
-  found (x ∷ xs) (suc i) d h l e =
-      let q = and_parts (not (p x)) (every (fails p) (take i xs)) h in
-      ap (option_map suc) (found xs i d q.1 (omega arith) e) ∙ sym (cond-false _ _ _ (not-true (p x) q.0))
+  -- the first that passes stands at i
+  pub position_is : (xs : List A) (i : ℕ) (d : A) → i < length xs → p (get_or xs i d) ≡ true → ((k : ℕ) → k < i → p (get_or xs k d) ≡ false) → position p xs ≡ Some i
+  position_is xs i d l e f = rw (position_or_len_is p xs i d (omega arith) f (λ _. e)) (cond-true _ _ _ (lt-ltb i (length xs) l))
 
-  pub found_none : (xs : List A) → every (fails p) xs ≡ true → None ≡ first_place p xs
-  found_none [] h = refl
-  found_none (x ∷ xs) h =
-      let q = and_parts (not (p x)) (every (fails p) xs) h in
-      ap (option_map suc) (found_none xs q.1) ∙ sym (cond-false _ _ _ (not-true (p x) q.0))
+  -- none passes
+  pub position_none : (xs : List A) (d : A) → ((k : ℕ) → k < length xs → p (get_or xs k d) ≡ false) → position p xs ≡ None
+  position_none xs d f = let n = position_or_len_is p xs (length xs) d (omega arith) f (λ l. absurd (omega arith)) in let z : ltb (length xs) (length xs) ≡ false = grind arith in rw n (cond-false _ _ _ z)
 
-  pub found_nowhere : (xs : List A) (i : ℕ) → every (fails p) (take i xs) ≡ true → length xs ≤ i → None ≡ first_place p xs
-  found_nowhere xs i h l = found_none xs (ap (every (fails p)) (sym (take_all i xs l)) ∙ h)
+  -- of a list that begins with x
+  pub position_more : (x : A) (xs : List A) → position p (x ∷ xs) ≡ cond (p x) (Some 0) (option_map suc (position p xs))
+  position_more x xs = by (p x) (position_or_len p xs)
+    where
+      by : (t : Bool) (n : ℕ) → cond (ltb (cond (not t) (1 + n) 0) (suc (length xs))) (Some (cond (not t) (1 + n) 0)) None ≡ cond t (Some 0) (option_map suc (cond (ltb n (length xs)) (Some n) None))
+      by true n = cond-true _ _ _ (lt-ltb 0 (suc (length xs)) (omega arith))
+      by false n = grind arith
 
-pub first_map : {A B : Type 0} (f : A → B) (p : B → Bool) (xs : List A) → first_place (λ x. p (f x)) xs ≡ first_place p (map f xs)
-first_map f p [] = refl
-first_map f p (x ∷ xs) = ap (λ o. cond (p (f x)) (Some 0) (option_map suc o)) (first_map f p xs)
+pub position_map : {A B : Type 0} (f : A → B) (p : B → Bool) (xs : List A) → position (λ x. p (f x)) xs ≡ position p (map f xs)
+position_map f p [] = refl
+position_map f p (x ∷ xs) = position_more (λ y. p (f y)) x xs ∙ ap (λ o. cond (p (f x)) (Some 0) (option_map suc o)) (position_map f p xs) ∙ sym (position_more p (f x) (map f xs))
 
--- the key at a place
-pub at_place : (rs : List (Bor (List ℕ))) (i : ℕ) (d : Bor (List ℕ)) → i < length rs → Some (get_or rs i d).now ≡ slice_get (all_now rs) i
-at_place rs i d l = ap Some (sym (get_or-map (λ x. x.now) rs i d [] l)) ∙ sym (slice_get-get_or (all_now rs) i [] (let n = length-map rs (λ x. x.now) in omega arith))
+-- a search by number for the first bad one, where f takes the elements to what they stand for
+module _ {A B : Type 0} (f : A → B) (well : List B → Bool) (bad : List B → B → Bool) (none : well [] ≡ true) (more : (xs : List B) (x : B) → well xs ≡ true → bad xs x ≡ false → well (xs ++ (x ∷ [])) ≡ true) (xs : List A) (d : A) where
+  well_before : (n : ℕ) → n ≤ length xs → ((k : ℕ) → 0 ≤ k → k < n → bad (map f (take k xs)) (f (get_or xs k d)) ≡ false) → well (map f (take n xs)) ≡ true
+  well_before zero l h = none
+  well_before (suc n) l h =
+      rw (sym (add-one n), map_more f xs n d) (more (map f (take n xs)) (f (get_or xs n d)) (well_before n (omega arith) (λ k z i. h k z (omega arith))) (h n (omega arith) (omega arith)))
 
-pub past_places : (rs : List (Bor (List ℕ))) (i : ℕ) → length rs ≤ i → None ≡ slice_get (all_now rs) i
-past_places rs i l = sym (slice_get_past (all_now rs) i (let n = length-map rs (λ x. x.now) in omega arith))
-
--- a name is among others where it has a place among them
-pub placed_among : (ks : List Name) (x : Name) → is_some (place_of ks x) ≡ among ks x
-placed_among [] x = refl
-placed_among (k ∷ ks) x = by (bytes_eq k x) (place_of ks x) (placed_among ks x)
-  where
-    by : (t : Bool) (o : Option ℕ) → is_some o ≡ among ks x → is_some (cond t (Some 0) (option_map suc o)) ≡ (t || among ks x)
-    by true o h = refl
-    by false None h = h
-    by false (Some n) h = h
-
-module _ (rs : List (Bor (List ℕ))) (i : ℕ) (d : Bor (List ℕ)) (l : i < length rs) (well : holdable (all_now (take i rs)) ≡ true) where
-  size : length (all_now (take i rs)) ≡ i
-  size = length-map (take i rs) (λ x. x.now) ∙ length-take-le i rs (omega arith)
-
-  -- the next may not stand here
-  pub first_bad : misplaced (all_now (take i rs)) (get_or rs i d).now ≡ true → FirstMisplaced (all_now rs) i
-  first_bad m = record {
-    before = all_now (take i rs);
-    bad = (get_or rs i d).now;
-    after = all_now (drop (suc i) rs);
-    all = sym (map-append (λ x. x.now) (take i rs) (get_or rs i d ∷ drop (suc i) rs)) ∙ ap all_now (sym (split_at rs i d l));
-    well = well;
-    is_misplaced = m;
-    is_number = size;
+  pub first_bad : (r : Option ℕ) → MatchOption r ((k : ℕ) → 0 ≤ k → k < length xs → bad (map f (take k xs)) (f (get_or xs k d)) ≡ false) (λ i. (0 ≤ i) × (i < length xs) × (bad (map f (take i xs)) (f (get_or xs i d)) ≡ true) × ((k : ℕ) → 0 ≤ k → k < i → bad (map f (take k xs)) (f (get_or xs k d)) ≡ false)) → MatchOption r (well (map f xs) ≡ true) (FirstBad well bad (map f xs))
+  first_bad None h = ap (λ l. well (map f l)) (sym (take_all (length xs) xs (omega arith))) ∙ well_before (length xs) (omega arith) h
+  first_bad (Some i) (z, l, e, h) = record {
+    before = map f (take i xs);
+    bad = f (get_or xs i d);
+    after = map f (drop (suc i) xs);
+    all = sym (map-append f (take i xs) (get_or xs i d ∷ drop (suc i) xs)) ∙ ap (map f) (sym (split_at xs i d l));
+    are_well = well_before i (omega arith) h;
+    is_bad = e;
+    is_number = length-map (take i xs) f ∙ length-take-le i xs (omega arith);
   }
 
-  -- and may
-  pub one_more : misplaced (all_now (take i rs)) ((get_or rs i d).now) ≡ false → holdable (all_now (take (i + 1) rs)) ≡ true
-  one_more m =
-      let ks = all_now (take i rs) in
-      let x = (get_or rs i d).now in
-      let u = or_parts (leb 32 (length ks)) (not (key x) || among ks x) m in
-      let few = leb-false 32 (length ks) u.0 in
-      let v = or_parts (not (key x)) (among ks x) u.1 in
-      let k = not-false (key x) v.0 in
-      let a = v.1 in
-      let q = and_parts (every key ks) (distinct ks && leb (length ks) 32) well in
-      let s = and_parts (distinct ks) (leb (length ks) 32) q.1 in
-      ap (λ r. holdable (all_now r)) (take_more rs i d l) ∙ ap holdable (map-append (λ x. x.now) (take i rs) (get_or rs i d ∷ [])) ∙ and_from _ _ (every_append key ks (x ∷ []) ∙ and_from _ _ q.0 (and_from _ _ k refl)) (and_from _ _ (distinct_push ks x s.0 a) (le-leb _ 32 (let n = length-append ks (x ∷ []) in omega arith)))
+-- one more name that may stand behind those held
+pub holdable_more : (ks : List Name) (x : Name) → holdable ks ≡ true → misplaced ks x ≡ false → holdable (ks ++ (x ∷ [])) ≡ true
+holdable_more ks x well m =
+    let u = or_parts (leb 32 (length ks)) (not (key x) || among ks x) m in
+    let few = leb-false 32 (length ks) u.0 in
+    let v = or_parts (not (key x)) (among ks x) u.1 in
+    let q = and_parts (every key ks) (distinct ks && leb (length ks) 32) well in
+    let s = and_parts (distinct ks) (leb (length ks) 32) q.1 in
+    and_from _ _ (every_append key ks (x ∷ []) ∙ and_from _ _ q.0 (and_from _ _ (not-false (key x) v.0) refl)) (and_from _ _ (distinct_push ks x s.0 v.1) (le-leb _ 32 (let n = length-append ks (x ∷ []) in omega arith)))
 
-module _ (rs : List (Bor (List ℕ))) (x : Name) where
-  pub misplaced_33rd : 32 ≤ length rs → true ≡ misplaced (all_now rs) x
-  misplaced_33rd l = sym (or_left _ _ (le-leb 32 (length (all_now rs)) (let n = length-map rs (λ x. x.now) in omega arith)))
+-- the test for a held name
+pub among_now : (rs : List (Bor (List ℕ))) (x : Name) → list_any (λ y. bytes_eq y.now x) rs ≡ among (all_now rs) x
+among_now [] x = refl
+among_now (r ∷ rs) x = ap (λ t. bytes_eq r.now x || t) (among_now rs x)
 
-  pub misplaced_no_key : key x ≡ false → true ≡ misplaced (all_now rs) x
-  misplaced_no_key e = sym (or_right _ _ (or_left _ _ (not_from_false (key x) e)))
-
-  pub misplaced_again : length rs < 32 → key x ≡ true → is_some (place_of (all_now rs) x) ≡ misplaced (all_now rs) x
-  misplaced_again l e =
-      placed_among (all_now rs) x ∙ sym (ap (λ t. t || among (all_now rs) x) (not_from_true (key x) e)) ∙ sym (ap (λ t. t || (not (key x) || among (all_now rs) x)) (lt-leb 32 (length (all_now rs)) (let n = length-map rs (λ x. x.now) in omega arith)))
+-- behind fewer than 32, a key is misplaced if it is one of them
+pub misplaced_again : (ks : List Name) (x : Name) → length ks < 32 → key x ≡ true → among ks x ≡ misplaced ks x
+misplaced_again ks x l e = grind (arith, nat_tests)

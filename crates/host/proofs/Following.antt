@@ -1,7 +1,7 @@
 -- Where a specifier leads among the keys held, and the laws of the file host.
-use Rattle.std.proofs.Common.{◌≡◌, ℕ, zero, suc, ◌<◌, Bool, true, false, cond, ◌&&◌, leb, List, [], ◌∷◌, ◌++◌, map, length, get_or, Some, None, codes, Decides, Option, sym, refl, ap, ◌∙◌, subst, append_assoc, append-nil, add-one, arith, Bor}
-use Rattle.std.specs.List.{slice_get}
-use Rattle.std.specs.Option.{option_map}
+use Rattle.std.proofs.Common.{◌≡◌, ℕ, ◌<◌, Bool, true, false, cond, ◌&&◌, leb, List, [], ◌∷◌, ◌++◌, map, length, get_or, Some, None, MatchOption, codes, Decides, Option, sym, refl, ap, ◌∙◌, subst, append_assoc, append-nil, add-one, arith, Bor}
+use Rattle.std.specs.List.{slice_get, position, AllWithin, HoldsAt}
+use Rattle.std.proofs.lemmas.Option.{get_or_from_slice_get, slice_get_within}
 use Rattle.std.specs.Str.{bytes_eq}
 use Rattle.std.proofs.lemmas.Slice.Eq.{bytes_eq-Decides}
 use Rattle.std.proofs.lemmas.List.{length-map, get_or-map, nil_from_length}
@@ -11,10 +11,11 @@ use Rattle.names.specs.Keys.{key, parts, path}
 use Rattle.names.proofs.Every.{every_append}
 use Rattle.names.proofs.Keys.{path_parts}
 use Rattle.host.specs.Paths.{and_then, parent, walked, relative}
-use Rattle.host.specs.Holding.{first_place, place_of, holdable, all_now}
+use Rattle.host.specs.Holding.{place_of, holdable, all_now}
 use Rattle.host.specs.FileHosts.{directory, ordinary, led_to, file_hosting, LeadsToPlace, FollowsPaths, plain_part, way, PlainSpecifiersLeadDown, WaysBetweenHeldKeysAreFound}
 use Rattle.host.specs.Lawful.{is_held_key, every_at}
 use Rattle.host.proofs.Walks.{never, then_some, walked_append, last_one, parent_push}
+use Rattle.host.proofs.Finding.{position_is, position_none, position_map}
 use Rattle.host.proofs.Numbered.{at_its_place, no_key_there}
 use Rattle.host.proofs.Leading.{slashless, every_weaker, every_without_last, walked_ordinary, key_ordinary, from_directory, parts_slashless, walked_keeps, parts_of_path, relative_more, relative_begins, begins_relative, walks_so, so_walks}
 
@@ -22,14 +23,6 @@ use Rattle.host.proofs.Leading.{slashless, every_weaker, every_without_last, wal
 abbrev pub led : Option (List Name) → Name → Bool
 led None k = false
 led (Some p) k = bytes_eq k (path p)
-
-no_place : (ks : List Name) → first_place (led None) ks ≡ None
-no_place [] = refl
-no_place (k ∷ ks) = ap (option_map suc) (no_place ks)
-
-pub led_place : (ks : List Name) (o : Option (List Name)) → first_place (led o) ks ≡ and_then o (λ p. place_of ks (path p))
-led_place ks None = no_place ks
-led_place ks (Some p) = refl
 
 -- what the walk back tells of a key
 pub tells : (j x k : Name) (r : Bool) → key j ≡ true → key k ≡ true → Decides r (walked [] (directory j ++ parts x) ≡ Some (parts k)) → r ≡ led (walked (directory j) (parts x)) k
@@ -47,14 +40,27 @@ tells j x k r hj hk d = by (walked (directory j) (parts x)) (λ p e. walked_keep
     by (Some p) f false d = sym (other p (f p refl) (λ e. false≢true (d.1 (ap Some e))) (bytes_eq k (path p)) refl)
 
 -- a key held is a key
-pub held_key : (rs : List (Bor (List ℕ))) (i : ℕ) (d : Bor (List ℕ)) → every key (all_now rs) ≡ true → i < length rs → key (get_or rs i d).now ≡ true
+held_key : (rs : List (Bor (List ℕ))) (i : ℕ) (d : Bor (List ℕ)) → every key (all_now rs) ≡ true → i < length rs → key (get_or rs i d).now ≡ true
 held_key rs i d h l = sym (ap key (get_or-map (λ x. x.now) rs i d [] l)) ∙ every_at key (all_now rs) i [] h (let n = length-map rs (λ x. x.now) in omega arith)
 
 -- and so is the one at a place
-pub key_at_place : (ks : List Name) (i : ℕ) (x : Name) → every key ks ≡ true → Some x ≡ slice_get ks i → key x ≡ true
-key_at_place [] i x h e = never (sym e)
-key_at_place (k ∷ ks) zero x h e = let z : k ≡ x = cc in sym (ap key z) ∙ (and_parts (key k) (every key ks) h).0
-key_at_place (k ∷ ks) (suc i) x h e = key_at_place ks i x (and_parts (key k) (every key ks) h).1 e
+pub key_at_place : (ks : List Name) (i : ℕ) (x : Name) → every key ks ≡ true → slice_get ks i ≡ Some x → key x ≡ true
+key_at_place ks i x h e = sym (ap key (get_or_from_slice_get ks i x [] e)) ∙ every_at key ks i [] h (slice_get_within ks i x e)
+
+-- the first key held that is the path at the end of a walk
+pub led_place : (rs : List (Bor (List ℕ))) (o : Option (List Name)) (r : Option ℕ) → every key (all_now rs) ≡ true → MatchOption r (AllWithin (λ k. key k.now ≡ true → led o k.now ≡ false) rs 0 (length rs)) (λ i. (i < length rs) × HoldsAt (λ k. key k.now ≡ true → led o k.now ≡ true) rs i × AllWithin (λ k. key k.now ≡ true → led o k.now ≡ false) rs 0 i) → r ≡ and_then o (λ p. place_of (all_now rs) (path p))
+led_place rs o r h m = first r m ∙ position_map (λ k. k.now) (led o) rs ∙ by o
+  where
+    d : Bor (List ℕ)
+    d = record { ref_ptr = (0, 0); now = [] }
+
+    first : (r : Option ℕ) → MatchOption r (AllWithin (λ k. key k.now ≡ true → led o k.now ≡ false) rs 0 (length rs)) (λ i. (i < length rs) × HoldsAt (λ k. key k.now ≡ true → led o k.now ≡ true) rs i × AllWithin (λ k. key k.now ≡ true → led o k.now ≡ false) rs 0 i) → r ≡ position (λ k. led o k.now) rs
+    first None m = sym (position_none (λ k. led o k.now) rs d (λ k l. m k d (omega arith) l (held_key rs k d h l)))
+    first (Some i) (l, e, f) = sym (position_is (λ k. led o k.now) rs i d l (e d (held_key rs i d h l)) (λ k q. f k d (omega arith) q (held_key rs k d h (omega arith))))
+
+    by : (o : Option (List Name)) → position (led o) (all_now rs) ≡ and_then o (λ p. place_of (all_now rs) (path p))
+    by None = position_none (led None) (all_now rs) [] (λ k l. refl)
+    by (Some p) = refl
 
 module _ (ks : List Name) (ok : holdable ks ≡ true) where
   pub all_keys : every key ks ≡ true

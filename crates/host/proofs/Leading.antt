@@ -1,10 +1,12 @@
 -- Names as parts: where they lead, and that a path of them comes apart again.
-use Rattle.std.proofs.Common.{◌≡◌, ◌<◌, Bool, true, false, cond, not, ◌&&◌, ◌||◌, eqb, leb, ◌⊎◌, List, [], ◌∷◌, ◌++◌, length, is_some, Some, None, codes, Option, sym, refl, ap, ◌∙◌, inl, inr, append_assoc, append-nil, arith}
+use Rattle.std.proofs.Common.{◌≡◌, ◌<◌, Bool, true, false, cond, not, ◌&&◌, ◌||◌, eqb, leb, ◌⊎◌, List, [], ◌∷◌, ◌++◌, length, drop, Some, None, codes, Option, sym, refl, ap, ◌∙◌, inl, inr, append_assoc, append-nil, arith}
+use Rattle.std.specs.List.{starts_with}
 use Rattle.std.specs.Str.{bytes_eq}
-use Rattle.std.proofs.lemmas.Slice.Eq.{bytes_eq-Decides}
-use Rattle.std.proofs.lemmas.Bool.{and_parts, and_from, or_cases, not-true, not_from_false, false≢true, true≢false}
+use Rattle.std.proofs.lemmas.Slice.Eq.{bytes_eq-Decides, starts_is}
+use Rattle.std.proofs.lemmas.Bool.Decides.{Decides-eqb}
+use Rattle.std.proofs.lemmas.Bool.{and_parts, and_from, or_cases, not-true, not_from_false, false≢true}
 use Rattle.names.specs.Names.{Name, every}
-use Rattle.names.specs.Keys.{segment, segment_byte, key, parts, path, before, not_slash, Splits}
+use Rattle.names.specs.Keys.{segment, segment_byte, key, parts, path, before, not_slash}
 use Rattle.names.proofs.Every.{every_append}
 use Rattle.names.proofs.Keys.{parts_last, parts_cut, path_parts}
 use Rattle.host.specs.Paths.{and_then, without_last, parent, stepped, walked, relative}
@@ -84,11 +86,6 @@ pub relative_more : (x : Name) (l : List Name) → 0 < length l → relative (x 
 relative_more x [] h = absurd (omega arith)
 relative_more x (y ∷ ys) h = refl
 
--- a specifier that has a first part and more
-pub relative_split : (p x : Name) (o : Option Name) → Splits p x o → is_some o ≡ true → relative (parts p) ≡ (bytes_eq x (codes ".") || bytes_eq x (codes ".."))
-relative_split p x None s e = absurd (false≢true e)
-relative_split p x (Some more) s e = ap relative s.0 ∙ relative_more x (parts more) (parts_some more)
-
 -- what relative tells of the bytes
 pub relative_begins : (x : Name) → relative (parts x) ≡ true → Begins x
 relative_begins x h = by (parts x) (path_parts x) h
@@ -105,6 +102,23 @@ relative_begins x h = by (parts x) (path_parts x) h
 pub begins_relative : (x : Name) → Begins x → relative (parts x) ≡ true
 begins_relative x (inl (rest, e)) = ap (λ q. relative (parts q)) e ∙ ap relative (parts_cut (codes ".") rest refl) ∙ relative_more (codes ".") (parts rest) (parts_some rest)
 begins_relative x (inr (rest, e)) = ap (λ q. relative (parts q)) e ∙ ap relative (parts_cut (codes "..") rest refl) ∙ relative_more (codes "..") (parts rest) (parts_some rest)
+
+-- what the beginnings tell of relative
+pub relative_starts : (x : Name) (a b : Bool) → a ≡ starts_with eqb x (codes "./") → b ≡ starts_with eqb x (codes "../") → (a || b) ≡ relative (parts x)
+relative_starts x a b p q = by a b (starts_is Decides-eqb x (codes "./") a p) (starts_is Decides-eqb x (codes "../") b q)
+  where
+    by : (a b : Bool) → (a ≡ true → x ≡ codes "./" ++ drop 2 x) × ((rest : Name) → x ≡ codes "./" ++ rest → a ≡ true) → (b ≡ true → x ≡ codes "../" ++ drop 3 x) × ((rest : Name) → x ≡ codes "../" ++ rest → b ≡ true) → (a || b) ≡ relative (parts x)
+    by true b f g = sym (begins_relative x (inl (drop 2 x, f.0 refl)))
+    by false true f g = sym (begins_relative x (inr (drop 3 x, g.0 refl)))
+    by false false f g = neither (relative (parts x)) (relative_begins x)
+      where
+        which : Begins x → ⊥
+        which (inl (rest, e)) = false≢true (f.1 rest e)
+        which (inr (rest, e)) = false≢true (g.1 rest e)
+
+        neither : (t : Bool) → (t ≡ true → Begins x) → false ≡ t
+        neither true h = absurd (which (h refl))
+        neither false h = refl
 
 -- a step by the relation, and by the definition
 steps_so : (p q : List Name) (x : Name) → Steps p x q → stepped p x ≡ Some q
@@ -125,7 +139,3 @@ walks_so (x ∷ xs) p r (q, s, w) = ap (λ o. and_then o (λ l. walked l xs)) (s
 pub so_walks : (xs p r : List Name) → walked p xs ≡ Some r → Walks p xs r
 so_walks [] p r e = let z : r ≡ p = cc in z
 so_walks (x ∷ xs) p r e = let (q, f, g) = then_some (stepped p x) (λ l. walked l xs) r e in (q, so_steps p q x _ _ _ refl refl refl f, so_walks xs q r g)
-
-pub not_relative : (p x : Name) (o : Option Name) → Splits p x o → is_some o ≡ false → false ≡ relative (parts p)
-not_relative p x None s e = sym (ap relative s.0)
-not_relative p x (Some more) s e = absurd (true≢false e)

@@ -1,59 +1,42 @@
 -- A loop over rows: the first bad one, what they say, and that their order does not count.
-use Rattle.std.proofs.Common.{◌≡◌, ℕ, suc, ◌+◌, ◌<◌, ◌≤◌, true, false, not, ◌||◌, leb, List, [], ◌∷◌, map, length, get_or, take, drop, Some, None, Option, sym, refl, ap, ◌∙◌, subst, inl, inr, arith, length-append}
+use Rattle.std.proofs.Common.{◌≡◌, true, false, not, leb, List, [], ◌∷◌, ◌++◌, map, length, Some, None, Option, sym, refl, ap, ◌∙◌, subst, inl, inr, arith, length-append}
 use mathlib.Core.List.Memᴰ
 use mathlib.Core.List.{Memᴰ}
-use Rattle.std.proofs.Math.Seq.{split_at}
 use Rattle.std.specs.List.{slice_get}
+use Rattle.std.specs.Fn.{Called}
+use Rattle.std.specs.Iterator.{Drains}
+use Rattle.std.specs.List.{FoldsTo}
+use denote.Param.Members.{Mut}
+use Rattle.std.proofs.lemmas.Fn.{fold_over}
+use Rattle.std.proofs.lemmas.Iterator.{YieldsList}
 use Rattle.std.specs.Str.{bytes_eq}
 use Rattle.std.proofs.lemmas.Slice.Eq.{bytes_eq-Decides}
-use Rattle.std.proofs.lemmas.List.{length-map, take_more, map-append, length-take-le}
-use Rattle.std.proofs.lemmas.Bool.{and_parts, and_from, or_left, or_right, not_from_false, le-leb}
+use Rattle.std.proofs.lemmas.Bool.{and_parts, and_from, or_parts, not-false, le-leb, leb-false}
 use Rattle.names.specs.Names.{Name, every}
 use Rattle.names.proofs.Every.{every_append}
 use Rattle.outcome.specs.declared.Outcome.{Outcome}
+use Rattle.outcome.specs.declared.Outcome.TheVariants.{Nothing}
 use Rattle.outcome.specs.Joining.{joined, joined_all, SameMembers}
 use Rattle.outcome.proofs.Joins.{laws, joined_all_push}
 use Rattle.record.specs.declared.denial.Denial.{Denial}
 use Rattle.host.specs.Paths.{and_then}
 use Rattle.host.specs.Holding.{RefusesKeys}
-use Rattle.host.specs.MappedHosts.{Row, plain, plain_all, says, placed, good_row, good_rows, FirstBadRow, mapped_to, RefusesToMap, no_memory, bad_key, OrderOfRowsAndRowsWrittenTwiceDoNotAffectAnAnswer}
-use Rattle.host.specs.declared.row.Row as code
+use Rattle.host.specs.MappedHosts.{Row, says, placed, good_row, good_rows, bad_row_behind, mapped_to, RefusesToMap, no_memory, bad_key, OrderOfRowsAndRowsWrittenTwiceDoNotAffectAnAnswer}
 
-module _ (rs : List code.Row) (i : ℕ) (d : code.Row) (l : i < length rs) where
-  module _ (well : good_rows (plain_all (take i rs)) ≡ true) where
-    size : length (plain_all (take i rs)) ≡ i
-    size = length-map (take i rs) plain ∙ length-take-le i rs (omega arith)
+-- one more row that may stand behind others
+pub good_more : (rows : List Row) (r : Row) → good_rows rows ≡ true → bad_row_behind rows r ≡ false → good_rows (rows ++ (r ∷ [])) ≡ true
+good_more rows r well m =
+    let u = or_parts (leb 64 (length rows)) (not (good_row r)) m in
+    let few = leb-false 64 (length rows) u.0 in
+    let q = and_parts (every good_row rows) (leb (length rows) 64) well in
+    and_from _ _ (every_append good_row rows (r ∷ []) ∙ and_from _ _ q.0 (and_from _ _ (not-false (good_row r) u.1) refl)) (le-leb _ 64 (let n = length-append rows (r ∷ []) in omega arith))
 
-    bad_at : (leb 64 (length (plain_all (take i rs))) || not (good_row (plain (get_or rs i d)))) ≡ true → FirstBadRow (plain_all rs) i
-    bad_at b = record {
-      before = plain_all (take i rs);
-      bad = plain (get_or rs i d);
-      after = plain_all (drop (suc i) rs);
-      all = sym (map-append plain (take i rs) (get_or rs i d ∷ drop (suc i) rs)) ∙ ap plain_all (sym (split_at rs i d l));
-      well = well;
-      is_bad = b;
-      is_number = size;
-    }
-
-    pub a_65th : 64 ≤ i → FirstBadRow (plain_all rs) i
-    a_65th k = bad_at (or_left _ _ (le-leb 64 (length (plain_all (take i rs))) (let n = size in omega arith)))
-
-    pub malformed : good_row (plain (get_or rs i d)) ≡ false → FirstBadRow (plain_all rs) i
-    malformed e = bad_at (or_right _ _ (not_from_false _ e))
-
-    pub good_more : i < 64 → good_row (plain (get_or rs i d)) ≡ true → good_rows (plain_all (take (i + 1) rs)) ≡ true
-    good_more k e =
-        let rows = plain_all (take i rs) in
-        let r = plain (get_or rs i d) in
-        let q = and_parts (every good_row rows) (leb (length rows) 64) well in
-        ap (λ s. good_rows (plain_all s)) (take_more rs i d l) ∙ ap good_rows (map-append plain (take i rs) (get_or rs i d ∷ [])) ∙ and_from _ _ (every_append good_row rows (r ∷ []) ∙ and_from _ _ q.0 (and_from _ _ e refl)) (le-leb _ 64 (let n = length-append rows (r ∷ []) in let s = size in omega arith))
-
-  -- what one more row adds
-  pub said_more : (j x : Name) (a b r : Outcome Name) → a ≡ joined_all bytes_eq (map (says j x) (plain_all (take i rs))) → b ≡ says j x (plain (get_or rs i d)) → r ≡ joined bytes_eq a b → r ≡ joined_all bytes_eq (map (says j x) (plain_all (take (i + 1) rs)))
-  said_more j x a b r p q e =
-      e ∙ ap (λ o. joined bytes_eq o b) p ∙ ap (joined bytes_eq _) q
-      ∙ sym (joined_all_push bytes_eq bytes_eq-Decides (map (says j x) (plain_all (take i rs))) (says j x (plain (get_or rs i d))))
-      ∙ ap (joined_all bytes_eq) (sym (map-append (says j x) (plain_all (take i rs)) (plain (get_or rs i d) ∷ [])) ∙ ap (map (says j x)) (sym (map-append plain (take i rs) (get_or rs i d ∷ [])) ∙ ap plain_all (sym (take_more rs i d l))))
+-- a chain that gives outcomes, and a fold that joins them
+pub joined_over : {S A C F : Type 0} {steps : S → Option A → S → Type 0} {g : Mut F (C × (A × Unit {0})) C} {f : F} {s : S} {a r : C} (v : A → Outcome Name) (w : C → Outcome Name) → (xs : List A) × (f' : F) × Drains steps s xs × FoldsTo {P = F × C} (λ p x q. Called g p.0 (p.1, (x, tt)) q.1 q.0) (f, a) xs (f', r) → w a ≡ Nothing → ((b : C) (x : A) (c : C) (h : F) → Called g f (b, (x, tt)) c h → (w c ≡ joined bytes_eq (w b) (v x)) × (h ≡ f)) → (all : List (Outcome Name)) → YieldsList steps v s all → w r ≡ joined_all bytes_eq all
+joined_over {steps = steps} {g = g} {f = f} {s = s} {a = a} {r = r} v w ran none step all y =
+    fold_over steps v g (λ os b. w b ≡ joined_all bytes_eq os) f
+    (λ os b x c h j k. let q = step b x c h k in (q.0 ∙ ap (λ o. joined bytes_eq o (v x)) j ∙ sym (joined_all_push bytes_eq bytes_eq-Decides os (v x)), q.1))
+    s all a r y.runs none ran
 
 -- what is said by the same rows
 said_again : (f : Row → Outcome Name) (rows others : List Row) → SameMembers rows others → SameMembers (map f others) (map f rows)

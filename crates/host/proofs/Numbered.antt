@@ -10,6 +10,7 @@ use Rattle.names.specs.Names.{Name, among, distinct, every}
 use Rattle.names.specs.Keys.{key}
 use Rattle.host.specs.Holding.{place_of, holdable}
 use Rattle.host.specs.Lawful.{held_at}
+use Rattle.host.proofs.Finding.{position_more}
 use Rattle.host.proofs.Walks.{never}
 
 -- where a key is sought, there it stands
@@ -23,10 +24,10 @@ nth_among (y ∷ xs) (suc i) x e = or_right (bytes_eq y x) _ (nth_among xs i x e
 
 distinct_numbered : (ks : List Name) → distinct ks ≡ true → (n : ℕ) (k : Name) → slice_get ks n ≡ Some k → place_of ks k ≡ Some n
 distinct_numbered [] d n k e = never e
-distinct_numbered (x ∷ ks) d zero k e = let z : x ≡ k = cc in cond-true _ _ _ ((bytes_eq-Decides x k).1 z)
+distinct_numbered (x ∷ ks) d zero k e = let z : x ≡ k = cc in position_more (λ y. bytes_eq y k) x ks ∙ cond-true (bytes_eq x k) (Some 0) _ ((bytes_eq-Decides x k).1 z)
 distinct_numbered (x ∷ ks) d (suc n) k e =
     let p = and_parts (not (among ks x)) (distinct ks) d in
-    cond-false _ _ _ (apart (bytes_eq x k) refl (not-true _ p.0) (nth_among ks n k e)) ∙ ap (option_map suc) (distinct_numbered ks p.1 n k e)
+    position_more (λ y. bytes_eq y k) x ks ∙ cond-false (bytes_eq x k) (Some 0) _ (apart (bytes_eq x k) refl (not-true _ p.0) (nth_among ks n k e)) ∙ ap (option_map suc) (distinct_numbered ks p.1 n k e)
   where
     apart : (t : Bool) → bytes_eq x k ≡ t → among ks x ≡ false → among ks k ≡ true → t ≡ false
     apart true h f g = absurd (both_ways (among ks x) f (ap (among ks) ((bytes_eq-Decides x k).0 h) ∙ g))

@@ -1,8 +1,7 @@
 -- The keys that a host holds: the first at place 0, the next at place 1, and so on.
-use Rattle.std.specs.Prelude.{◌≡◌, ℕ, suc, Bool, true, cond, not, ◌&&◌, ◌||◌, ◌⊎◌, List, [], ◌∷◌, ◌++◌, map, length, Some, None, Option, nat_le}
+use Rattle.std.specs.Prelude.{◌≡◌, ℕ, Bool, true, not, ◌&&◌, ◌||◌, ◌⊎◌, List, ◌∷◌, ◌++◌, map, length, Some, None, Option, nat_le}
 use Rattle.std.specs.Borrow.{Bor}
-use Rattle.std.specs.List.{slice_get}
-use Rattle.std.specs.Option.{option_map}
+use Rattle.std.specs.List.{slice_get, position}
 use Rattle.std.specs.Str.{bytes_eq}
 use Rattle.names.specs.Names.{Name, among, distinct, every}
 use Rattle.names.specs.Keys.{key}
@@ -10,14 +9,9 @@ use Rattle.record.specs.declared.denial.Cause.TheVariants.{MalformedBundle}
 use Rattle.record.specs.declared.denial.Denial.{Denial}
 use Rattle.record.specs.Memory.{memory_denial}
 
--- the place of the first that passes a test
-abbrev pub first_place : {A : Type 0} → (A → Bool) → List A → Option ℕ
-first_place p [] = None
-first_place p (x ∷ xs) = cond (p x) (Some 0) (option_map suc (first_place p xs))
-
 -- the place of a key, if it is held
 abbrev pub place_of : List Name → Name → Option ℕ
-place_of ks x = first_place (λ k. bytes_eq k x) ks
+place_of ks x = position (λ k. bytes_eq k x) ks
 
 -- names that a host can hold: each a key, none twice, at most 32
 abbrev pub holdable : List Name → Bool
@@ -35,15 +29,19 @@ refused_at n = record { cause = MalformedBundle; place = None; byte = n }
 abbrev pub misplaced : List Name → Name → Bool
 misplaced before k = nat_le 32 (length before) || (not (key k) || among before k)
 
--- the first such name, and its number
-pub record FirstMisplaced (ks : List Name) (n : ℕ) : Type 0 where
-  pub before : List Name
-  pub bad : Name
-  pub after : List Name
-  pub all : before ++ (bad ∷ after) ≡ ks
-  pub well : holdable before ≡ true
-  pub is_misplaced : misplaced before bad ≡ true
+-- the first of a list that may not stand behind those before it, and its number; those before it are well
+pub record FirstBad {A : Type 0} (well : List A → Bool) (bad_behind : List A → A → Bool) (xs : List A) (n : ℕ) : Type 0 where
+  pub before : List A
+  pub bad : A
+  pub after : List A
+  pub all : before ++ (bad ∷ after) ≡ xs
+  pub are_well : well before ≡ true
+  pub is_bad : bad_behind before bad ≡ true
   pub is_number : length before ≡ n
+
+-- the first misplaced name, and its number
+abbrev pub FirstMisplaced : List Name → ℕ → Type 0
+FirstMisplaced = FirstBad holdable misplaced
 
 -- keys are held as given, if a host can hold them
 abbrev pub Holds : List Name → List Name → Type 0

@@ -1,11 +1,11 @@
 -- Hosts that hold keys in places are lawful.
-use Rattle.std.specs.Prelude.{◌≡◌, ℕ, suc, ◌<◌, ◌≤◌, Bool, true, false, cond, ◌&&◌, List, [], ◌∷◌, map, length, get_or, Some, None, Option, nat_le, slice_index_or, refl}
+use Rattle.std.specs.Prelude.{◌≡◌, ℕ, suc, ◌<◌, ◌≤◌, Bool, true, false, cond, ◌&&◌, List, [], ◌∷◌, map, length, Some, None, Option, nat_le, slice_index_or}
 use Rattle.std.proofs.Common.{sym, ◌∙◌, ap, arith}
 use Rattle.std.specs.List.{slice_get}
-use Rattle.std.specs.Option.{option_map}
 use Rattle.std.specs.Str.{bytes_eq}
 use Rattle.std.proofs.lemmas.Slice.Eq.{bytes_eq-Decides}
 use Rattle.std.proofs.lemmas.Bool.{and_parts, leb-true}
+use Rattle.std.proofs.lemmas.List.Quantifiers.{position-Some}
 use Rattle.names.specs.Names.{Name, distinct, every}
 use Rattle.names.specs.Keys.{key, parts, path}
 use Rattle.names.proofs.Keys.{key_decides}
@@ -23,13 +23,7 @@ nothing {B} {m} e = absurd (let z : ◌≡◌ {A = ℕ} 0 1 = cc in omega arith)
 
 -- the place of a key held is within the keys, and the key stands there
 pub held_at : (ks : List Name) (x : Name) (m : ℕ) → place_of ks x ≡ Some m → (m < length ks) × (slice_index_or ks m [] ≡ x)
-held_at [] x m e = nothing e
-held_at (k ∷ ks) x m e = by (bytes_eq k x) refl (place_of ks x) (λ n. held_at ks x n) e
-  where
-    by : (t : Bool) → bytes_eq k x ≡ t → (o : Option ℕ) → ((n : ℕ) → o ≡ Some n → (n < length ks) × (slice_index_or ks n [] ≡ x)) → cond t (Some 0) (option_map suc o) ≡ Some m → (m < suc (length ks)) × (slice_index_or (k ∷ ks) m [] ≡ x)
-    by true t o h f = let z : 0 ≡ m = cc in (omega arith, ap (λ n. get_or (k ∷ ks) n []) (sym z) ∙ (bytes_eq-Decides k x).0 t)
-    by false t None h f = nothing f
-    by false t (Some n) h f = let z : suc n ≡ m = cc in let g = h n refl in let l = g.0 in (omega arith, ap (λ i. get_or (k ∷ ks) i []) (sym z) ∙ g.1)
+held_at ks x m e = let h = position-Some (λ k. bytes_eq k x) ks m [] e in (h.0, (bytes_eq-Decides (slice_index_or ks m []) x).0 h.1)
 
 pub every_at : {A : Type 0} (p : A → Bool) (xs : List A) (m : ℕ) (d : A) → every p xs ≡ true → m < length xs → p (slice_index_or xs m d) ≡ true
 every_at p [] m d h l = absurd (omega arith)

@@ -1,5 +1,5 @@
 -- What the mapped host means.
-use Rattle.std.specs.Prelude.{◌≡◌, ℕ, Bool, true, cond, not, ◌&&◌, ◌||◌, List, ◌∷◌, ◌++◌, map, length, Some, None, Option, nat_le}
+use Rattle.std.specs.Prelude.{◌≡◌, ℕ, Bool, true, cond, not, ◌&&◌, ◌||◌, List, map, length, Some, None, Option, nat_le}
 use mathlib.Core.List.{Memᴰ}
 use Rattle.std.specs.List.{slice_get}
 use Rattle.std.specs.Str.{bytes_eq}
@@ -12,7 +12,7 @@ use Rattle.record.specs.declared.denial.Denial.{Denial}
 use Rattle.record.specs.Meanings.{Hosting}
 use Rattle.record.specs.Memory.{memory_denial}
 use Rattle.host.specs.Paths.{and_then}
-use Rattle.host.specs.Holding.{place_of, holdable, refused_at, FirstMisplaced}
+use Rattle.host.specs.Holding.{place_of, holdable, refused_at, FirstBad, FirstMisplaced}
 use Rattle.host.specs.declared.row.Row as code
 
 -- in the module with this key, the specifier leads to that key
@@ -74,15 +74,13 @@ good_row r = key r.referrer && key r.target
 abbrev pub good_rows : List Row → Bool
 good_rows rows = every good_row rows && nat_le (length rows) 64
 
--- the first row that is a 65th or has a malformed key, and its number
-pub record FirstBadRow (rows : List Row) (n : ℕ) : Type 0 where
-  pub before : List Row
-  pub bad : Row
-  pub after : List Row
-  pub all : before ++ (bad ∷ after) ≡ rows
-  pub well : good_rows before ≡ true
-  pub is_bad : (nat_le 64 (length before) || not (good_row bad)) ≡ true
-  pub is_number : length before ≡ n
+-- whether a row may not stand behind others: they are 64, or a key of it is malformed
+abbrev pub bad_row_behind : List Row → Row → Bool
+bad_row_behind before r = nat_le 64 (length before) || not (good_row r)
+
+-- the first such row, and its number
+abbrev pub FirstBadRow : List Row → ℕ → Type 0
+FirstBadRow = FirstBad good_rows bad_row_behind
 
 -- keys and rows are held as given, if they can be held
 pub record Maps (ks : List Name) (rows : List Row) (held : List Name) (kept : List Row) : Type 0 where

@@ -3,8 +3,9 @@
 
 mod file_host;
 mod goal;
+mod keys;
 mod mapped_host;
-mod places;
+mod misplaced;
 mod row;
 mod rows;
 mod walk;

@@ -2,45 +2,26 @@
 ghost use Rattle.std.specs.Prelude.{◌≡◌, true, map, MatchOption};
 ghost use Rattle.std.specs.Str.{bytes_eq};
 ghost use Rattle.outcome.specs.Joining.{joined_all, valued};
-ghost use Rattle.host.specs.MappedHosts.{plain, plain_all, says, good_row, good_rows, FirstBadRow};
+ghost use Rattle.host.specs.MappedHosts.{plain, plain_all, says, good_rows, bad_row_behind, FirstBadRow};
 
 use crate::row::Row;
-use names::{is_key, same_name};
 use outcome::{Outcome, join};
 
 // A mapped host has at most so many rows.
 const MAX_ROWS: usize = 64;
 
-fn is_good(row: &Row<'_>) -> bool
-    ensures { result ≡ good_row (plain row.now) }
+// Whether a row may not stand behind others: they are 64, or a key of it is malformed.
+fn is_bad_behind(before: &[Row<'_>], row: &Row<'_>) -> bool
+    ensures { result ≡ bad_row_behind (plain_all before.now) (plain row.now) }
 {
-    is_key(row.referrer) && is_key(row.target)
+    before.len() >= MAX_ROWS || !row.is_good()
 }
 
-// The number of the first row that is a 65th or has a malformed key, if there is one.
+// The number of the first such row, if there is one.
 pub(crate) fn first_bad_row(rows: &[Row<'_>]) -> Option<usize>
     ensures { MatchOption result (good_rows (plain_all rows.now) ≡ true) (FirstBadRow (plain_all rows.now)) }
 {
-    for (i, row) in rows.iter().enumerate() {
-        if i >= MAX_ROWS {
-            return Some(i);
-        }
-        if !is_good(row) {
-            return Some(i);
-        }
-    }
-    None
-}
-
-// What a row says of a referrer and a specifier: its target, if both are its own.
-fn said_by<'a>(row: &Row<'a>, referrer: &[u8], specifier: &[u8]) -> Outcome<&'a [u8]>
-    ensures { valued (λ x. x.now) result ≡ says referrer.now specifier.now (plain row.now) }
-{
-    if same_name(row.referrer, referrer) && same_name(row.specifier, specifier) {
-        Outcome::One(row.target)
-    } else {
-        Outcome::Nothing
-    }
+    (0..rows.len()).find(|i| is_bad_behind(&rows[..*i], &rows[*i]))
 }
 
 // What all rows say, joined.
@@ -51,9 +32,7 @@ pub(crate) fn said_by_all<'a>(
 ) -> Outcome<&'a [u8]>
     ensures { valued (λ x. x.now) result ≡ joined_all bytes_eq (map (says referrer.now specifier.now) (plain_all rows.now)) }
 {
-    let mut all = Outcome::Nothing;
-    for row in rows {
-        all = join(all, said_by(row, referrer, specifier));
-    }
-    all
+    rows.iter()
+        .map(|row| row.says(referrer, specifier))
+        .fold(Outcome::Nothing, join)
 }

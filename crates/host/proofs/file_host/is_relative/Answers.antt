@@ -1,18 +1,10 @@
-use Rattle.std.proofs.Common.{◌||◌, codes, sym, ap, ◌∙◌}
-use Rattle.std.specs.Option.{option_map}
-use Rattle.std.specs.Str.{bytes_eq}
-use Rattle.std.proofs.lemmas.Bool.{or_left}
-use Rattle.host.proofs.Backwards.{still_some}
-use Rattle.host.proofs.Leading.{relative_split}
+use Rattle.std.proofs.Common.{◌||◌, eqb, codes, ap, ◌∙◌, refl, sym}
+use Rattle.std.specs.List.{starts_with}
+use Rattle.host.proofs.Leading.{relative_starts}
 use Rattle.host.proofs.file_host.is_relative.Goals as goal
 
-pub returns-then-same_name : goal.returns-then-same_name
-returns-then-same_name c =
-    let o = c.split_segment.result.1 in
-    c.if-same_name.true ∙ sym (relative_split c.args.specifier.now _ (option_map (λ x. x.now) o) c.split_segment.ensures (still_some (λ x. x.now) o ∙ c.if-is_none.ensures) ∙ or_left _ _ (sym c.if-same_name.ensures))
+pub returns-then-starts_with : goal.returns-then-starts_with
+returns-then-starts_with c = c.if-starts_with.true ∙ ap (λ t. t || starts_with eqb c.args.specifier.now (codes "../")) (sym c.if-starts_with.true) ∙ relative_starts c.args.specifier.now c.starts_with.result (starts_with eqb c.args.specifier.now (codes "../")) c.starts_with.ensures.value refl
 
-pub returns-else-same_name : goal.returns-else-same_name
-returns-else-same_name c =
-    let o = c.split_segment.result.1 in
-    let x = c.split_segment.result.0.now in
-    c.same_name-else-same_name.ensures ∙ sym (relative_split c.args.specifier.now _ (option_map (λ x. x.now) o) c.split_segment.ensures (still_some (λ x. x.now) o ∙ c.if-is_none.ensures) ∙ ap (λ t. t || bytes_eq x (codes "..")) (sym c.if-same_name.ensures))
+pub returns-else-starts_with : goal.returns-else-starts_with
+returns-else-starts_with c = ap (λ t. t || c.starts_with-else-starts_with.result) (sym c.if-starts_with.false) ∙ relative_starts c.args.specifier.now c.starts_with.result c.starts_with-else-starts_with.result c.starts_with.ensures.value c.starts_with-else-starts_with.ensures.value

@@ -1,20 +1,14 @@
-use Rattle.std.proofs.Common.{ℕ, List, [], map, ap, ◌∙◌, Bor}
+use Rattle.std.proofs.Common.{ℕ, List, sym, refl, ap, ◌∙◌, rules, Bor}
 use Rattle.std.specs.Str.{bytes_eq}
-use Rattle.std.proofs.lemmas.List.{take_all}
+use Rattle.std.proofs.lemmas.Iterator.{YieldsList-from_slice, YieldsList-from_map_by}
+use Rattle.std.proofs.lemmas.Simd.{map-map}
 use Rattle.outcome.specs.Joining.{joined_all, valued}
-use Rattle.host.specs.MappedHosts.{plain_all, says}
-use Rattle.host.specs.declared.row.Row as code
-use Rattle.host.proofs.Mapping.{said_more}
+use Rattle.host.specs.MappedHosts.{plain, says}
+use Rattle.host.proofs.Mapping.{joined_over}
 use Rattle.host.proofs.rows.said_by_all.Goals as goal
-
-none : code.Row
-none = let r : Bor (List ℕ) = record { ref_ptr = (0, 0); now = [] } in record { referrer = r; specifier = r; target = r }
-
-pub loop-row-preserved : goal.loop-row-preserved
-unfolding none
-loop-row-preserved c =
-    said_more c.args.rows.now c.loop-row.row-index none c.loop-row-test.true c.args.referrer.now c.args.specifier.now (valued (λ x. x.now) c.loop-row.all) (valued (λ x. x.now) c.said_by.result) (valued (λ x. x.now) c.join-all.result) c.loop-row.invariant c.said_by.ensures c.join-all.ensures.values
 
 pub returns : goal.returns
 returns c =
-    c.loop-row.invariant ∙ ap (λ rs. joined_all bytes_eq (map (says c.args.referrer.now c.args.specifier.now) (plain_all rs))) (take_all c.loop-row.row-index c.args.rows.now c.loop-row-test.false)
+    joined_over (valued {A = Bor (List ℕ)} (λ x. x.now)) (valued {A = Bor (List ℕ)} (λ x. x.now)) c.fold.ensures.ran refl (λ b x r h k. (search rules, search rules)) _
+    (YieldsList-from_map_by _ (valued {A = Bor (List ℕ)} (λ x. x.now)) (λ row. says c.args.referrer.now c.args.specifier.now (plain row)) (YieldsList-from_slice c.args.rows.now cc) c.map.ensures.closure (λ x r q k. search rules))
+    ∙ ap (joined_all bytes_eq) (sym (map-map (says c.args.referrer.now c.args.specifier.now) plain c.args.rows.now))

@@ -1,4 +1,4 @@
-use Rattle.std.proofs.Common.{vec_items, ap, ◌∙◌}
+use Rattle.std.proofs.Common.{ap, ◌∙◌}
 use Rattle.std.specs.List.{slice_get}
 use Rattle.host.specs.Holding.{all_now, holdable}
 use Rattle.host.proofs.Following.{follows_paths, plain_specifiers, ways}
@@ -8,7 +8,7 @@ use Rattle.host.proofs.file_host.FileHost.new.Goals as goal
 pub returns : goal.returns
 returns c =
     let h = c.in_ok-keys.ensures in
-    let ks = all_now (vec_items c.in_ok-keys.keys) in
+    let ks = all_now c.in_ok-keys.keys.names.items in
     let ok = ap holdable h.0 ∙ h.1 in
     record {
       makes = h;

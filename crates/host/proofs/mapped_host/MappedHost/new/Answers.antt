@@ -24,7 +24,7 @@ returns-in_err-rows c =
 pub returns : goal.returns
 returns c =
     let h = c.in_ok-keys.ensures in
-    let ks = all_now (vec_items c.in_ok-keys.keys) in
+    let ks = all_now c.in_ok-keys.keys.names.items in
     let rows = plain_all (vec_items c.in_ok-rows.rows) in
     let ok = ap holdable h.0 ∙ h.1 in
     let same = ap plain_all c.in_ok-rows.ensures.items in
