@@ -15,6 +15,10 @@ use Rattle.host.proofs.Walks.{back_none, back_more, back_never, back_ends, witho
 abbrev pub Gone : Name → Goal → List Name → Goal → Type 0
 Gone path start rest goal = (done : List Name) × (parts path ≡ rest ++ done) × GoesBack done start (Some goal)
 
+abbrev pub bytes_left : Option Name → ℕ
+bytes_left None = 0
+bytes_left (Some rest) = length rest
+
 pub gone_none : (path : Name) (start : Goal) → Gone path start (parts path) start
 gone_none path start = ([], sym (append-nil (parts path)), back_none (aim start) start.extra)
 
@@ -34,12 +38,9 @@ module _ (path rest : Name) (front : Option Name) (part : Name) (start goal : Go
 pub gone_all : (path : Name) (start goal : Goal) → Gone path start [] goal → GoesBack (parts path) start (Some goal)
 gone_all path start goal (done, e, b) = subst (λ l. GoesBack l start (Some goal)) (sym e) b
 
-pub front_shorter : (rest front part : Name) → SplitsLast rest (Some front) part → length front + length part < length rest
-front_shorter rest front part s = let n = ap length s.1 in omega (arith, length-append front (47 ∷ part))
-
-pub part_fits : (rest : Name) (front : Option Name) (part : Name) → SplitsLast rest front part → length part ≤ length rest
-part_fits rest None part s = let n = ap length s.1 in omega arith
-part_fits rest (Some front) part s = let n = ap length s.1 in omega (arith, length-append front (47 ∷ part))
+pub parts_fit : (path : Name) (front : Option Name) (part : Name) → SplitsLast path front part → bytes_left front + length part ≤ length path
+parts_fit path None part s = let n = ap length s.1 in omega arith
+parts_fit path (Some front) part s = let n = ap length s.1 in omega (arith, length-append front (47 ∷ part))
 
 pub parts_some : (p : Name) → 0 < length (parts p)
 parts_some [] = omega arith

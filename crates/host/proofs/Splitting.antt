@@ -1,9 +1,10 @@
 -- A path that comes apart at its last `/`.
-use Rattle.std.proofs.Common.{◌≡◌, ℕ, ◌+◌, ◌-◌, ◌<◌, ◌≤◌, Bool, true, false, cond, eqb, List, [], ◌∷◌, ◌++◌, length, get_or, take, drop, Some, None, Option, sym, refl, ap, ◌∙◌, add-one, arith}
-use Rattle.std.proofs.Math.Nat.{sub-zero}
-use Rattle.std.proofs.Math.Seq.{split_at}
-use Rattle.std.proofs.lemmas.List.{take_rest, drop_more}
-use Rattle.std.proofs.lemmas.Bool.{and_from}
+use Rattle.std.proofs.Common.{◌≡◌, ℕ, suc, ◌+◌, ◌-◌, ◌<◌, Bool, true, false, cond, eqb, List, [], ◌∷◌, ◌++◌, length, get_or, take, drop, Some, None, Option, sym, refl, ap, ◌∙◌, add-one, arith, length-drop, length-append}
+use Rattle.std.proofs.Math.Seq.{split_at, get_or-append_seam}
+use Rattle.std.proofs.lemmas.List.{get_or-drop, get_or-append-add}
+use Rattle.std.proofs.lemmas.Bool.{and_from, not_from_false, ne_eqb, eqb-true, false≢true}
+use Rattle.std.specs.Bool.{MatchBool}
+use Rattle.std.specs.List.{IsAfterLastMatch}
 use Rattle.names.specs.Names.{Name, every}
 use Rattle.names.specs.Keys.{before, parts, not_slash}
 use Rattle.names.proofs.Keys.{parts_last}
@@ -28,21 +29,37 @@ parts_append (b ∷ s) t = by (eqb b 47) (parts_append s t)
     by true e = ap (λ l. [] ∷ l) e
     by false e = ap (before b) e ∙ before_append b s t
 
--- the last `/` stands before i
-pub splits_before : (p : Name) (i : ℕ) → every not_slash (drop i p) ≡ true → 0 < i → i ≤ length p → get_or p (i - 1) 0 ≡ 47 → SplitsLast p (Some (take (i - 1 - 0) p)) (take (length p - i) (drop i p))
-splits_before p i h z l e =
-    let here : take (i - 1) p ++ (47 ∷ drop i p) ≡ p =
-    ap (λ b. take (i - 1) p ++ (b ∷ drop i p)) (sym e) ∙ ap (λ k. take (i - 1) p ++ (get_or p (i - 1) 0 ∷ drop k p)) (let q : i ≡ i - 1 + 1 = omega arith in q ∙ add-one (i - 1)) ∙ sym (split_at p (i - 1) 0 (omega arith)) in
-    rw (sub-zero, take_rest p i) (sym (ap parts here) ∙ parts_append (take (i - 1) p) (drop i p) ∙ ap (λ q. parts (take (i - 1) p) ++ q) (parts_last (drop i p) h), here)
+no_slash : (p : Name) → ((k : ℕ) → k < length p → ¬ (get_or p k 0 ≡ 47)) → every not_slash p ≡ true
+no_slash [] h = refl
+no_slash (b ∷ p) h = and_from _ _ (not_from_false _ (ne_eqb b 47 (h 0 (omega arith)))) (no_slash p (λ k l. h (suc k) (omega arith)))
+
+-- the last `/` stands at i
+pub splits_at : (p : Name) (i : ℕ) → i < length p → get_or p i 0 ≡ 47 → ((k : ℕ) → i < k → k < length p → ¬ (get_or p k 0 ≡ 47)) → SplitsLast p (Some (take i p)) (drop (i + 1) p)
+splits_at p i l e h =
+    let here : take i p ++ (47 ∷ drop (i + 1) p) ≡ p = ap (λ b. take i p ++ (b ∷ drop (i + 1) p)) (sym e) ∙ ap (λ k. take i p ++ (get_or p i 0 ∷ drop k p)) (add-one i) ∙ sym (split_at p i 0 l) in
+    let last = no_slash (drop (i + 1) p) (λ k m. rw (get_or-drop (i + 1) p k 0) (h (i + 1 + k) (omega arith) (let n = length-drop (i + 1) p in omega arith))) in
+    (sym (ap parts here) ∙ parts_append (take i p) (drop (i + 1) p) ∙ ap (λ q. parts (take i p) ++ q) (parts_last (drop (i + 1) p) last), here)
 
 -- there is none
-pub splits_never : (p : Name) (i : ℕ) → every not_slash (drop i p) ≡ true → i ≤ 0 → SplitsLast p None p
-splits_never p i h l = let z : i ≡ 0 = omega arith in (parts_last p (sym (ap (λ k. every not_slash (drop k p)) z) ∙ h), refl)
+pub splits_never : (p : Name) → ((k : ℕ) → k < length p → ¬ (get_or p k 0 ≡ 47)) → SplitsLast p None p
+splits_never p h = (parts_last p (no_slash p h), refl)
 
--- one further byte is no `/`
-pub no_slash_more : (p : Name) (i : ℕ) → every not_slash (drop i p) ≡ true → 0 < i → i ≤ length p → not_slash (get_or p (i - 1) 0) ≡ true → every not_slash (drop (i - 1) p) ≡ true
-no_slash_more p i h z l e =
-    ap (every not_slash) (drop_more p (i - 1) 0 (omega arith)) ∙ and_from _ _ e (ap (λ k. every not_slash (drop k p)) (let q : i - 1 + 1 ≡ i = omega arith in q) ∙ h)
+-- what an iterator over parts from the last has left: a path, or nothing once it is done
+abbrev pub left : Bool → Name → Option Name
+left true rest = None
+left false rest = Some rest
+
+-- a step of such an iterator
+pub splits_step : (done : Bool) (path rest part : Name) → MatchBool done (path ≡ part) ((y : ℕ) × (path ≡ rest ++ (y ∷ part))) → IsAfterLastMatch (λ b. eqb b 47) path (length path - length part) → SplitsLast path (left done rest) part
+splits_step true path rest part e (f, h) = (parts_last path (no_slash path (λ k l m. false≢true (sym (f k 0 (let n = ap length e in omega arith) l) ∙ ap (λ b. eqb b 47) m))) ∙ ap (λ p. p ∷ []) e, sym e)
+splits_step false path rest part (y, e) (f, h) =
+    let n = ap length e ∙ length-append rest (y ∷ part) in
+    let i : length path - length part ≡ length rest + 1 = omega arith in
+    let at : get_or path (length rest) 0 ≡ y = ap (λ p. get_or p (length rest) 0) e ∙ get_or-append_seam rest y part 0 in
+    let here : length rest ≡ length path - length part - 1 = omega arith in
+    let is : y ≡ 47 = sym at ∙ ap (λ k. get_or path k 0) here ∙ eqb-true _ 47 (h (omega arith) 0) in
+    let last = no_slash part (λ k l m. false≢true (sym (f (length rest + suc k) 0 (omega arith) (omega arith)) ∙ ap (λ b. eqb b 47) (ap (λ p. get_or p (length rest + suc k) 0) e ∙ get_or-append-add rest (y ∷ part) (suc k) 0 ∙ m))) in
+    (ap parts e ∙ ap (λ b. parts (rest ++ (b ∷ part))) is ∙ parts_append rest part ∙ ap (λ l. parts rest ++ l) (parts_last part last), ap (λ b. rest ++ (b ∷ part)) (sym is) ∙ sym e)
 
 -- its segments
 pub splits_segments : (p : Name) (o : Option Name) (x : Name) → SplitsLast p o x → parts p ≡ segments o ++ (x ∷ [])

@@ -114,8 +114,6 @@ module _ (s : List Name) (n : ℕ) where
     one : (p q : List Name) → walked p (x ∷ []) ≡ Some q → stepped p x ≡ Some q
     one p q e = sym (walked_one p x) ∙ e
 
-    pub back_empty : bytes_eq x [] ≡ true → Never (x ∷ []) s n
-    back_empty e p (q, f, h) = never (sym (stepped_empty x e p) ∙ one p q f)
 
     module _ (some : bytes_eq x [] ≡ false) where
       pub back_here : bytes_eq x (codes ".") ≡ true → Alike (x ∷ []) s n s n
@@ -178,6 +176,3 @@ module _ (s : List Name) (n : ℕ) where
           back_other t y z is d p (q, f, (more, k, h)) = d (sym (same_from_push p t x y (added p q f ∙ h ∙ none_more more (k ∙ z) s ∙ is)).1)
 
           -- no segment
-          pub back_missing : n ≡ 0 → s ≡ [] → Never (x ∷ []) s n
-          back_missing z is p (q, f, (more, k, h)) =
-              let l = ap length (added p q f ∙ h ∙ none_more more (k ∙ z) s ∙ is) in omega (arith, length-append p (x ∷ []))

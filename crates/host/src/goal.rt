@@ -1,8 +1,89 @@
-// What the parts of a specifier are to lead to.
+// What the parts of a specifier are to lead to, and going back over them from the last to the first.
+ghost use Rattle.std.specs.Prelude.{◌≡◌, ◌+◌, ◌*◌, ◌^◌, ◌<◌, ◌≤◌, false, [], ◌∷◌, length, IfSome, codes, Decides};
+ghost use Rattle.std.specs.Str.{bytes_eq};
+ghost use Rattle.names.specs.Keys.{parts};
+ghost use Rattle.host.specs.Goals.{Meets, GoesBack};
+
+use crate::parts::split_last;
+use names::same_name;
 
 // A path with these segments, none if there is no path, and so many more behind them, which are dropped again.
 #[derive(Clone, Copy)]
 pub(crate) struct Goal<'a> {
-    pub(crate) path: Option<&'a [u8]>,
-    pub(crate) extra: usize,
+    path: Option<&'a [u8]>,
+    extra: usize,
+}
+
+impl<'a> Goal<'a> {
+    // The path itself.
+    pub(crate) fn at(path: &'a [u8]) -> Goal<'a>
+        ensures { result ≡ record { path = Some path.entry; extra = 0 } }
+    {
+        Goal {
+            path: Some(path),
+            extra: 0,
+        }
+    }
+
+    // Back over a part that is a name.
+    fn before_name(self, name: &[u8]) -> Option<Goal<'a>>
+        requires { (bytes_eq name.now [] ≡ false) × (bytes_eq name.now (codes ".") ≡ false) × (bytes_eq name.now (codes "..") ≡ false) }
+        ensures back { GoesBack (name.now ∷ []) self.entry result }
+        ensures size { IfSome result (λ h. h.extra ≤ self.entry.extra) }
+    {
+        if self.extra > 0 {
+            return Some(Goal {
+                path: self.path,
+                extra: self.extra - 1,
+            });
+        }
+        let (front, last) = split_last(self.path?);
+        if last != name {
+            return None;
+        }
+        Some(Goal {
+            path: front,
+            extra: 0,
+        })
+    }
+
+    // Back over one part.
+    fn before_part(self, part: &[u8]) -> Option<Goal<'a>>
+        requires { self.extra < 2 ^ 63 }
+        ensures back { GoesBack (part.now ∷ []) self.entry result }
+        ensures size { IfSome result (λ h. 2 * h.extra ≤ 2 * self.entry.extra + length part.now) }
+    {
+        if same_name(part, b"") {
+            None
+        } else if same_name(part, b".") {
+            Some(self)
+        } else if same_name(part, b"..") {
+            Some(Goal {
+                path: self.path,
+                extra: self.extra + 1,
+            })
+        } else {
+            self.before_name(part)
+        }
+    }
+
+    // Back over all parts of a path.
+    pub(crate) fn before_path(self, path: &[u8]) -> Option<Goal<'a>>
+        requires { 2 * self.extra + length path.now < 2 ^ 64 }
+        ensures back { GoesBack (parts path.now) self.entry result }
+        ensures size { IfSome result (λ h. 2 * h.extra ≤ 2 * self.entry.extra + length path.now) }
+    {
+        let mut goal = self;
+        for part in path.rsplit(|b| *b == b'/') {
+            goal = goal.before_part(part)?;
+        }
+        Some(goal)
+    }
+
+    // Whether the path without segments meets it.
+    pub(crate) fn is_met_at_the_top(self) -> bool
+        ensures { Decides result (Meets self.entry []) }
+    {
+        self.path.is_none() && self.extra == 0
+    }
 }

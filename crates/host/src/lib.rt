@@ -6,6 +6,7 @@ mod goal;
 mod keys;
 mod mapped_host;
 mod misplaced;
+mod parts;
 mod row;
 mod rows;
 mod walk;

@@ -25,6 +25,7 @@ pub(crate) fn first_bad_row(rows: &[Row<'_>]) -> Option<usize>
 }
 
 // What all rows say, joined.
+// The referrer and the specifier stay two parameters: a struct of both would be made at one call of each host, and only to be taken apart in `says` and `leads`.
 pub(crate) fn said_by_all<'a>(
     rows: &[Row<'a>],
     referrer: &[u8],
