@@ -1,5 +1,5 @@
 -- Going back over a path part by part, and what it tells at the top.
-use Rattle.std.proofs.Common.{◌≡◌, ℕ, ◌+◌, ◌<◌, ◌≤◌, Bool, true, false, cond, eqb, List, [], ◌∷◌, ◌++◌, length, is_some, Some, None, Decides, Option, sym, refl, ap, ◌∙◌, subst, append_assoc, append-nil, arith, length-append}
+use Rattle.std.proofs.Common.{◌≡◌, ℕ, ◌+◌, ◌<◌, ◌≤◌, Bool, true, false, cond, eqb, List, [], ◌∷◌, ◌++◌, length, is_some, Some, None, MatchOption, Decides, Option, sym, refl, ap, ◌∙◌, subst, append_assoc, append-nil, arith, length-append}
 use Rattle.std.specs.Option.{option_map}
 use Rattle.std.proofs.lemmas.List.{nil_from_length}
 use Rattle.std.proofs.lemmas.Bool.{false≢true}
@@ -63,20 +63,15 @@ module _ (ws : List Name) (start : Goal) (z : start.extra ≡ 0) where
   so_leads e = (aim start, e, ([], sym z, sym (append-nil (aim start))))
 
   -- what the top tells
-  pub decided_at : (goal : Goal) (r : Bool) → GoesBack ws start (Some goal) → Decides r (Meets goal []) → Decides r (walked [] ws ≡ Some (aim start))
-  decided_at goal r b d = (λ t. leads_so ((b []).1 (d.0 t)), λ e. d.1 ((b []).0 (so_leads e)))
+  pub decided_by : {Q : Goal → Type 0} (o : Option Goal) (r : Bool) → GoesBack ws start o → MatchOption o (r ≡ false) Q → ((g : Goal) → Q g → Decides r (Meets g [])) → Decides r (walked [] ws ≡ Some (aim start))
+  decided_by None r b m f = (λ t. absurd (false≢true (sym m ∙ t)), λ e. absurd (b [] (so_leads e)))
+  decided_by (Some g) r b m f = let d = f g m in (λ t. leads_so ((b []).1 (d.0 t)), λ e. d.1 ((b []).0 (so_leads e)))
 
-  pub decided_not : GoesBack ws start None → Decides false (walked [] ws ≡ Some (aim start))
-  decided_not b = (λ t. absurd (false≢true t), λ e. absurd (b [] (so_leads e)))
-
-pub back_further : (xs ys : List Name) (start inner outer : Goal) → GoesBack ys start (Some inner) → GoesBack xs inner (Some outer) → GoesBack (xs ++ ys) start (Some outer)
-back_further xs ys start inner outer a b = back_more (aim start) start.extra ys xs (aim inner) inner.extra (aim outer) outer.extra a b
-
-pub back_nowhere : (xs ys : List Name) (start inner : Goal) → GoesBack ys start (Some inner) → GoesBack xs inner None → GoesBack (xs ++ ys) start None
-back_nowhere xs ys start inner a b = back_never (aim start) start.extra ys xs (aim inner) inner.extra a b
-
-pub back_lost : (xs ys : List Name) (start : Goal) → GoesBack ys start None → GoesBack (xs ++ ys) start None
-back_lost xs ys start a = back_ends (aim start) start.extra ys xs a
+-- over some parts, and from the goal found there over those before them
+pub back_over : {Q : Goal → Type 0} (xs ys : List Name) (start : Goal) (o r : Option Goal) → GoesBack ys start o → MatchOption o (r ≡ None) Q → ((g : Goal) → Q g → GoesBack xs g r) → GoesBack (xs ++ ys) start r
+back_over xs ys start None r b m f = subst (GoesBack (xs ++ ys) start) (sym m) (back_ends (aim start) start.extra ys xs b)
+back_over xs ys start (Some g) None b m f = back_never (aim start) start.extra ys xs (aim g) g.extra b (f g m)
+back_over xs ys start (Some g) (Some h) b m f = back_more (aim start) start.extra ys xs (aim g) g.extra (aim h) h.extra b (f g m)
 
 -- a goal that has a path is not met at the top
 pub not_met : (o : Option Name) (n : ℕ) → is_some o ≡ true → ¬ ((more : List Name) × (length more ≡ n) × ([] ≡ segments o ++ more))

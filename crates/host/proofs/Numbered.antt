@@ -8,7 +8,7 @@ use Rattle.std.proofs.lemmas.Option.{slice_get-get_or}
 use Rattle.std.proofs.lemmas.Bool.{and_parts, or_left, or_right, not-true, cond-true, cond-false, both_ways}
 use Rattle.names.specs.Names.{Name, among, distinct, every}
 use Rattle.names.specs.Keys.{key}
-use Rattle.host.specs.Holding.{place_of, holdable}
+use Rattle.host.specs.Holding.{place_of, holdable, EachKeyHasItsNumberAsItsPlace}
 use Rattle.host.specs.Lawful.{held_at}
 use Rattle.host.proofs.Finding.{position_more}
 use Rattle.host.proofs.Walks.{never}
@@ -36,6 +36,9 @@ distinct_numbered (x ∷ ks) d (suc n) k e =
 module _ (ks : List Name) (ok : holdable ks ≡ true) where
   pub numbered : (n : ℕ) (k : Name) → slice_get ks n ≡ Some k → place_of ks k ≡ Some n
   numbered = distinct_numbered ks (and_parts (distinct ks) (leb (length ks) 32) (and_parts (every key ks) (distinct ks && leb (length ks) 32) ok).1).0
+
+  pub numbered_as_given : (given : List Name) → ks ≡ given → EachKeyHasItsNumberAsItsPlace given (place_of ks)
+  numbered_as_given given e n k f = numbered n k (ap (λ l. slice_get l n) e ∙ f)
 
   pub no_key_there : (m : ℕ) → ((j : Name) → ¬ (place_of ks j ≡ Some m)) → slice_get ks m ≡ None
   no_key_there m h = by (slice_get ks m) (λ k e. h k (numbered m k e))

@@ -54,9 +54,6 @@ last_one [] n e = absurd (omega arith)
 last_one (x ∷ xs) n e = let (y, h) = last_of x xs in (without_last (x ∷ xs), y, h, (let k = ap length h in omega (arith, length-append (without_last (x ∷ xs)) (y ∷ []))))
 
 module _ (x : Name) where
-  pub stepped_empty : bytes_eq x [] ≡ true → (p : List Name) → stepped p x ≡ None
-  stepped_empty e p = cond-true _ _ _ e
-
   module _ (some : bytes_eq x [] ≡ false) where
     pub stepped_here : bytes_eq x (codes ".") ≡ true → (p : List Name) → stepped p x ≡ Some p
     stepped_here e p = cond-false _ _ _ some ∙ cond-true _ _ _ e
@@ -113,7 +110,6 @@ module _ (s : List Name) (n : ℕ) where
   module _ (x : Name) where
     one : (p q : List Name) → walked p (x ∷ []) ≡ Some q → stepped p x ≡ Some q
     one p q e = sym (walked_one p x) ∙ e
-
 
     module _ (some : bytes_eq x [] ≡ false) where
       pub back_here : bytes_eq x (codes ".") ≡ true → Alike (x ∷ []) s n s n
@@ -174,5 +170,3 @@ module _ (s : List Name) (n : ℕ) where
           -- another last segment
           pub back_other : (t : List Name) (y : Name) → n ≡ 0 → s ≡ t ++ (y ∷ []) → ¬ (y ≡ x) → Never (x ∷ []) s n
           back_other t y z is d p (q, f, (more, k, h)) = d (sym (same_from_push p t x y (added p q f ∙ h ∙ none_more more (k ∙ z) s ∙ is)).1)
-
-          -- no segment

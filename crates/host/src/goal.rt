@@ -2,6 +2,7 @@
 ghost use Rattle.std.specs.Prelude.{◌≡◌, ◌+◌, ◌*◌, ◌^◌, ◌<◌, ◌≤◌, false, [], ◌∷◌, length, IfSome, codes, Decides};
 ghost use Rattle.std.specs.Str.{bytes_eq};
 ghost use Rattle.names.specs.Keys.{parts};
+ghost use Rattle.host.specs.Paths.{without_last};
 ghost use Rattle.host.specs.Goals.{Meets, GoesBack};
 
 use crate::parts::split_last;
@@ -78,6 +79,17 @@ impl<'a> Goal<'a> {
             goal = goal.before_part(part)?;
         }
         Some(goal)
+    }
+
+    // Back over the parts of a path's directory.
+    pub(crate) fn before_directory(self, path: &[u8]) -> Option<Goal<'a>>
+        requires { 2 * self.extra + length path.now < 2 ^ 64 }
+        ensures { GoesBack (without_last (parts path.now)) self.entry result }
+    {
+        match split_last(path).0 {
+            Some(directory) => self.before_path(directory),
+            None => Some(self),
+        }
     }
 
     // Whether the path without segments meets it.

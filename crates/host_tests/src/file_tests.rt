@@ -1,20 +1,8 @@
+use crate::refused::refused_at;
 use host::FileHost;
-use record::{Cause, Denial, Host};
+use record::Host;
 use std::process::Abort;
 use std::test::Fail;
-
-fn refused_at(r: Result<FileHost<'_>, Denial>) -> Option<usize> {
-    match r {
-        Err(
-            Denial {
-                cause: Cause::MalformedBundle,
-                place: None,
-                byte,
-            },
-        ) => Some(byte),
-        _ => None,
-    }
-}
 
 // Each of these specifiers leads from this place to this answer.
 fn all_lead(

@@ -5,3 +5,5 @@
 mod file_tests;
 #[cfg(test)]
 mod mapped_tests;
+#[cfg(test)]
+mod refused;

@@ -1,5 +1,6 @@
+use crate::refused::refused_at;
 use host::{MappedHost, Row};
-use record::{Cause, Denial, Host};
+use record::Host;
 use std::test::Fail;
 
 fn row<'a>(referrer: &'a [u8], specifier: &'a [u8], target: &'a [u8]) -> Row<'a> {
@@ -7,19 +8,6 @@ fn row<'a>(referrer: &'a [u8], specifier: &'a [u8], target: &'a [u8]) -> Row<'a>
         referrer,
         specifier,
         target,
-    }
-}
-
-fn refused_at(r: Result<MappedHost<'_>, Denial>) -> Option<usize> {
-    match r {
-        Err(
-            Denial {
-                cause: Cause::MalformedBundle,
-                place: None,
-                byte,
-            },
-        ) => Some(byte),
-        _ => None,
     }
 }
 

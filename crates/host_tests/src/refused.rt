@@ -1,0 +1,15 @@
+use record::{Cause, Denial};
+
+// The number at which a host was refused, if it was.
+pub(crate) fn refused_at<H: Drop>(r: Result<H, Denial>) -> Option<usize> {
+    match r {
+        Err(
+            Denial {
+                cause: Cause::MalformedBundle,
+                place: None,
+                byte,
+            },
+        ) => Some(byte),
+        _ => None,
+    }
+}
