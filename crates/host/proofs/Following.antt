@@ -1,20 +1,21 @@
 -- Where a specifier leads among the keys held, and the laws of the file host.
 use Rattle.std.proofs.Common.{◌≡◌, ℕ, ◌<◌, Bool, true, false, cond, ◌&&◌, leb, List, [], ◌∷◌, ◌++◌, map, length, get_or, Some, None, MatchOption, codes, Decides, Option, sym, refl, ap, ◌∙◌, subst, append_assoc, append-nil, add-one, arith, Bor}
 use Rattle.std.specs.List.{slice_get, position, AllWithin, HoldsAt}
-use Rattle.std.proofs.lemmas.Option.{get_or_from_slice_get, slice_get_within}
+use Rattle.std.proofs.lemmas.Option.{get_or_from_slice_get, slice_get_within, none-some}
 use Rattle.std.specs.Str.{bytes_eq}
 use Rattle.std.proofs.lemmas.Slice.Eq.{bytes_eq-Decides}
 use Rattle.std.proofs.lemmas.List.{length-map, get_or-map, nil_from_length}
 use Rattle.std.proofs.lemmas.Bool.{and_parts, and_from, cond-true, false≢true, true≢false}
+use Rattle.std.specs.Option.{option_and_then}
 use Rattle.names.specs.Names.{Name, every, distinct}
 use Rattle.names.specs.Keys.{key, parts, path}
 use Rattle.names.proofs.Every.{every_append}
 use Rattle.names.proofs.Keys.{path_parts}
-use Rattle.host.specs.Paths.{and_then, parent, walked, relative}
+use Rattle.host.specs.Paths.{parent, walked, relative}
 use Rattle.host.specs.Holding.{place_of, holdable, all_now}
 use Rattle.host.specs.FileHosts.{directory, ordinary, led_to, file_hosting, LeadsToPlace, FollowsPaths, plain_part, way, PlainSpecifiersLeadDown, WaysBetweenHeldKeysAreFound}
 use Rattle.host.specs.Lawful.{is_held_key, every_at}
-use Rattle.host.proofs.Walks.{never, then_some, walked_append, last_one, parent_push}
+use Rattle.host.proofs.Walks.{then_some, walked_append, last_one, parent_push}
 use Rattle.host.proofs.Finding.{position_is, position_none, position_map}
 use Rattle.host.proofs.Numbered.{at_its_place, no_key_there}
 use Rattle.host.proofs.Leading.{slashless, every_weaker, every_without_last, walked_ordinary, key_ordinary, from_directory, parts_slashless, walked_keeps, parts_of_path, relative_more, relative_begins, begins_relative, walks_so, so_walks}
@@ -34,7 +35,7 @@ tells j x k r hj hk d = by (walked (directory j) (parts x)) (λ p e. walked_keep
     other p s n false e = refl
 
     by : (o : Option (List Name)) → ((p : List Name) → o ≡ Some p → every slashless p ≡ true) → (r : Bool) → Decides r (o ≡ Some (parts k)) → r ≡ led o k
-    by None f true d = never (d.0 refl)
+    by None f true d = absurd (none-some _ (d.0 refl))
     by None f false d = refl
     by (Some p) f true d = let e = d.0 refl in let z : p ≡ parts k = cc in sym (ap (λ q. bytes_eq k (path q)) z ∙ (bytes_eq-Decides k (path (parts k))).1 (sym (path_parts k)))
     by (Some p) f false d = sym (other p (f p refl) (λ e. false≢true (d.1 (ap Some e))) (bytes_eq k (path p)) refl)
@@ -48,7 +49,7 @@ pub key_at_place : (ks : List Name) (i : ℕ) (x : Name) → every key ks ≡ tr
 key_at_place ks i x h e = sym (ap key (get_or_from_slice_get ks i x [] e)) ∙ every_at key ks i [] h (slice_get_within ks i x e)
 
 -- the first key held that is the path at the end of a walk
-pub led_place : (rs : List (Bor (List ℕ))) (o : Option (List Name)) (r : Option ℕ) → every key (all_now rs) ≡ true → MatchOption r (AllWithin (λ k. key k.now ≡ true → led o k.now ≡ false) rs 0 (length rs)) (λ i. (i < length rs) × HoldsAt (λ k. key k.now ≡ true → led o k.now ≡ true) rs i × AllWithin (λ k. key k.now ≡ true → led o k.now ≡ false) rs 0 i) → r ≡ and_then o (λ p. place_of (all_now rs) (path p))
+pub led_place : (rs : List (Bor (List ℕ))) (o : Option (List Name)) (r : Option ℕ) → every key (all_now rs) ≡ true → MatchOption r (AllWithin (λ k. key k.now ≡ true → led o k.now ≡ false) rs 0 (length rs)) (λ i. (i < length rs) × HoldsAt (λ k. key k.now ≡ true → led o k.now ≡ true) rs i × AllWithin (λ k. key k.now ≡ true → led o k.now ≡ false) rs 0 i) → r ≡ option_and_then (λ p. place_of (all_now rs) (path p)) o
 led_place rs o r h m = first r m ∙ position_map (λ k. k.now) (led o) rs ∙ by o
   where
     d : Bor (List ℕ)
@@ -58,7 +59,7 @@ led_place rs o r h m = first r m ∙ position_map (λ k. k.now) (led o) rs ∙ b
     first None m = sym (position_none (λ k. led o k.now) rs d (λ k l. m k d (omega arith) l (held_key rs k d h l)))
     first (Some i) (l, e, f) = sym (position_is (λ k. led o k.now) rs i d l (e d (held_key rs i d h l)) (λ k q. f k d (omega arith) q (held_key rs k d h (omega arith))))
 
-    by : (o : Option (List Name)) → position (led o) (all_now rs) ≡ and_then o (λ p. place_of (all_now rs) (path p))
+    by : (o : Option (List Name)) → position (led o) (all_now rs) ≡ option_and_then (λ p. place_of (all_now rs) (path p)) o
     by None = position_none (led None) (all_now rs) [] (λ k l. refl)
     by (Some p) = refl
 
@@ -69,9 +70,9 @@ module _ (ks : List Name) (ok : holdable ks ≡ true) where
   -- a specifier of these parts, from a held key
   follows : (j : Name) (m : ℕ) → place_of ks j ≡ Some m → (x : Name) (xs : List Name) → every slashless (x ∷ xs) ≡ true → relative (x ∷ xs) ≡ true → (p : List Name) → walked (directory j) (x ∷ xs) ≡ Some p → (file_hosting ks).follow m (path (x ∷ xs)) ≡ place_of ks (path p)
   follows j m e x xs s r p w =
-      ap (λ o. and_then o (λ j. led_to ks j (path (x ∷ xs)))) (at_its_place ks j m e)
-      ∙ ap (λ l. cond (relative l) (and_then (walked (directory j) l) (λ p. place_of ks (path p))) None) (parts_of_path x xs s)
-      ∙ cond-true _ _ _ r ∙ ap (λ o. and_then o (λ p. place_of ks (path p))) w
+      ap (λ o. option_and_then (λ j. led_to ks j (path (x ∷ xs))) o) (at_its_place ks j m e)
+      ∙ ap (λ l. cond (relative l) (option_and_then (λ p. place_of ks (path p)) (walked (directory j) l)) None) (parts_of_path x xs s)
+      ∙ cond-true _ _ _ r ∙ ap (λ o. option_and_then (λ p. place_of ks (path p)) o) w
 
   plain_slashless : (x : Name) → plain_part x ≡ true → slashless x ≡ true
   plain_slashless x h = (and_parts (ordinary x) (slashless x) h).1
@@ -88,8 +89,8 @@ module _ (ks : List Name) (ok : holdable ks ≡ true) where
   climbs shared [] zs n = ap Some (ap (λ l. shared ++ l) (nil_from_length zs n) ∙ append-nil shared)
   climbs shared (u ∷ us) zs n =
       let (ws, w, g, l) = last_one zs (length us) (n ∙ sym (add-one (length us))) in
-      ap (λ q. and_then (parent q) (λ r. walked r (map (λ _. codes "..") us))) (ap (λ q. shared ++ q) g ∙ sym (append_assoc shared ws (w ∷ [])))
-      ∙ ap (λ o. and_then o (λ r. walked r (map (λ _. codes "..") us))) (parent_push (shared ++ ws) w) ∙ climbs shared us ws l
+      ap (λ q. option_and_then (λ r. walked r (map (λ _. codes "..") us)) (parent q)) (ap (λ q. shared ++ q) g ∙ sym (append_assoc shared ws (w ∷ [])))
+      ∙ ap (λ o. option_and_then (λ r. walked r (map (λ _. codes "..") us)) o) (parent_push (shared ++ ws) w) ∙ climbs shared us ws l
 
   outs_slashless : (up : List Name) → every slashless (map (λ _. codes "..") up) ≡ true
   outs_slashless [] = refl
@@ -105,7 +106,7 @@ module _ (ks : List Name) (ok : holdable ks ≡ true) where
     way_leads : walked (directory j) (way up down) ≡ Some (parts k)
     way_leads =
         ap (λ d. walked d (way up down)) from ∙ walked_append (shared ++ up) (map (λ _. codes "..") up) down
-        ∙ ap (λ o. and_then o (λ q. walked q down)) (climbs shared up up refl)
+        ∙ ap (λ o. option_and_then (λ q. walked q down) o) (climbs shared up up refl)
         ∙ walked_ordinary down shared (down_has ordinary (key_ordinary k (is_held_key ks ok k n f))) ∙ ap Some (sym to)
 
     there : place_of ks (path (parts k)) ≡ Some n
@@ -125,13 +126,13 @@ module _ (ks : List Name) (ok : holdable ks ≡ true) where
     upwards = found_upwards;
   }
 
-  led_somewhere : (j x : Name) (n : ℕ) (t : Bool) → relative (parts x) ≡ t → cond t (and_then (walked (directory j) (parts x)) (λ p. place_of ks (path p))) None ≡ Some n → LeadsToPlace (file_hosting ks) j x n
+  led_somewhere : (j x : Name) (n : ℕ) (t : Bool) → relative (parts x) ≡ t → cond t (option_and_then (λ p. place_of ks (path p)) (walked (directory j) (parts x))) None ≡ Some n → LeadsToPlace (file_hosting ks) j x n
   led_somewhere j x n true r e = let (p, f, g) = then_some (walked (directory j) (parts x)) (λ p. place_of ks (path p)) n e in record { begins = relative_begins x r; end = p; walks = so_walks (parts x) (directory j) p f; held = g }
-  led_somewhere j x n false r e = never e
+  led_somewhere j x n false r e = absurd (none-some _ e)
 
   pub follows_paths : FollowsPaths (file_hosting ks)
   follows_paths = record {
-    answers = λ j m e x n f. led_somewhere j x n (relative (parts x)) refl (sym (ap (λ o. and_then o (λ j. led_to ks j x)) (at_its_place ks j m e)) ∙ f);
-    answered = λ j m e x n l. ap (λ o. and_then o (λ j. led_to ks j x)) (at_its_place ks j m e) ∙ cond-true _ _ _ (begins_relative x l.begins) ∙ ap (λ o. and_then o (λ p. place_of ks (path p))) (walks_so (parts x) (directory j) l.end l.walks) ∙ l.held;
-    without_referrer = λ m h x. ap (λ o. and_then o (λ j. led_to ks j x)) (no_key_there ks ok m h);
+    answers = λ j m e x n f. led_somewhere j x n (relative (parts x)) refl (sym (ap (λ o. option_and_then (λ j. led_to ks j x) o) (at_its_place ks j m e)) ∙ f);
+    answered = λ j m e x n l. ap (λ o. option_and_then (λ j. led_to ks j x) o) (at_its_place ks j m e) ∙ cond-true _ _ _ (begins_relative x l.begins) ∙ ap (λ o. option_and_then (λ p. place_of ks (path p)) o) (walks_so (parts x) (directory j) l.end l.walks) ∙ l.held;
+    without_referrer = λ m h x. ap (λ o. option_and_then (λ j. led_to ks j x) o) (no_key_there ks ok m h);
   }

@@ -5,14 +5,16 @@ use Rattle.std.specs.Str.{bytes_eq}
 use Rattle.std.proofs.lemmas.Slice.Eq.{bytes_eq-Decides, starts_is}
 use Rattle.std.proofs.lemmas.Bool.Decides.{Decides-eqb}
 use Rattle.std.proofs.lemmas.Bool.{and_parts, and_from, or_cases, not-true, not_from_false, false≢true}
+use Rattle.std.specs.Option.{option_and_then}
+use Rattle.std.proofs.lemmas.Option.{none-some}
 use Rattle.names.specs.Names.{Name, every}
 use Rattle.names.specs.Keys.{segment, segment_byte, key, parts, path, before, not_slash}
 use Rattle.names.proofs.Every.{every_append}
 use Rattle.names.proofs.Keys.{parts_last, parts_cut, path_parts}
-use Rattle.host.specs.Paths.{and_then, without_last, parent, stepped, walked, relative}
+use Rattle.host.specs.Paths.{without_last, parent, stepped, walked, relative}
 use Rattle.host.specs.FileHosts.{directory, ordinary, Begins, Steps, Walks}
 use Rattle.host.proofs.Backwards.{parts_some}
-use Rattle.host.proofs.Walks.{never, then_some, walked_append, stepped_in, parent_some, parent_push}
+use Rattle.host.proofs.Walks.{then_some, walked_append, stepped_in, parent_some, parent_push}
 
 abbrev pub slashless : Name → Bool
 slashless x = every not_slash x
@@ -37,7 +39,7 @@ pub walked_ordinary : (xs p : List Name) → every ordinary xs ≡ true → walk
 walked_ordinary [] p h = ap Some (sym (append-nil p))
 walked_ordinary (x ∷ xs) p h =
     let s = and_parts (ordinary x) (every ordinary xs) h in
-    ap (λ o. and_then o (λ q. walked q xs)) (stepped_ordinary x s.0 p) ∙ walked_ordinary xs (p ++ (x ∷ [])) s.1 ∙ ap Some (append_assoc p (x ∷ []) xs)
+    ap (λ o. option_and_then (λ q. walked q xs) o) (stepped_ordinary x s.0 p) ∙ walked_ordinary xs (p ++ (x ∷ [])) s.1 ∙ ap Some (append_assoc p (x ∷ []) xs)
 
 segment_ordinary : (x : Name) → segment x ≡ true → ordinary x ≡ true
 segment_ordinary x h = (and_parts (every segment_byte x) (ordinary x) h).1
@@ -50,7 +52,7 @@ directory_ordinary j h = every_without_last ordinary (parts j) (key_ordinary j h
 
 -- from the top through a directory is from the directory
 pub from_directory : (j : Name) → key j ≡ true → (ys : List Name) → walked [] (directory j ++ ys) ≡ walked (directory j) ys
-from_directory j h ys = walked_append [] (directory j) ys ∙ ap (λ o. and_then o (λ q. walked q ys)) (walked_ordinary (directory j) [] (directory_ordinary j h))
+from_directory j h ys = walked_append [] (directory j) ys ∙ ap (λ o. option_and_then (λ q. walked q ys) o) (walked_ordinary (directory j) [] (directory_ordinary j h))
 
 pub parts_slashless : (s : Name) → every slashless (parts s) ≡ true
 parts_slashless [] = refl
@@ -64,7 +66,7 @@ parts_slashless (b ∷ s) = by (eqb b 47) refl (parts s) (parts_slashless s)
 -- what every segment of the path and every part has, every segment of the path at the end has
 module _ (q : Name → Bool) where
   chosen_keeps : (p r : List Name) (x : Name) (s t u : Bool) → every q p ≡ true → q x ≡ true → cond s None (cond t (Some p) (cond u (parent p) (Some (p ++ (x ∷ []))))) ≡ Some r → every q r ≡ true
-  chosen_keeps p r x true t u h i e = never e
+  chosen_keeps p r x true t u h i e = absurd (none-some _ e)
   chosen_keeps p r x false true u h i e = let z : p ≡ r = cc in sym (ap (every q) z) ∙ h
   chosen_keeps p r x false false true h i e = let (y, g) = parent_some p r e in (and_parts (every q r) (every q (y ∷ [])) (sym (every_append q r (y ∷ [])) ∙ sym (ap (every q) g) ∙ h)).0
   chosen_keeps p r x false false false h i e = let z : p ++ (x ∷ []) ≡ r = cc in sym (ap (every q) z) ∙ every_append q p (x ∷ []) ∙ and_from _ _ h (and_from _ _ i refl)
@@ -73,8 +75,8 @@ module _ (q : Name → Bool) where
   walked_keeps [] p r h i e = let z : p ≡ r = cc in sym (ap (every q) z) ∙ h
   walked_keeps (x ∷ xs) p r h i e = let s = and_parts (q x) (every q xs) i in by (stepped p x) (λ o f. chosen_keeps p o x (bytes_eq x []) (bytes_eq x (codes ".")) (bytes_eq x (codes "..")) h s.0 f) (λ o k f. walked_keeps xs o r k s.1 f) e
     where
-      by : (o : Option (List Name)) → ((l : List Name) → o ≡ Some l → every q l ≡ true) → ((l : List Name) → every q l ≡ true → walked l xs ≡ Some r → every q r ≡ true) → and_then o (λ l. walked l xs) ≡ Some r → every q r ≡ true
-      by None f g e = never e
+      by : (o : Option (List Name)) → ((l : List Name) → o ≡ Some l → every q l ≡ true) → ((l : List Name) → every q l ≡ true → walked l xs ≡ Some r → every q r ≡ true) → option_and_then (λ l. walked l xs) o ≡ Some r → every q r ≡ true
+      by None f g e = absurd (none-some _ e)
       by (Some l) f g e = g l (f l refl) e
 
 -- a path of such names comes apart into them
@@ -127,14 +129,14 @@ steps_so p q x (inr (inl (e, (y, f)))) = ap (stepped p) e ∙ ap parent f ∙ pa
 steps_so p q x (inr (inr (h, f))) = stepped_ordinary x h p ∙ ap Some (sym f)
 
 so_steps : (p q : List Name) (x : Name) (s t u : Bool) → bytes_eq x [] ≡ s → bytes_eq x (codes ".") ≡ t → bytes_eq x (codes "..") ≡ u → cond s None (cond t (Some p) (cond u (parent p) (Some (p ++ (x ∷ []))))) ≡ Some q → Steps p x q
-so_steps p q x true t u hs ht hu e = never e
+so_steps p q x true t u hs ht hu e = absurd (none-some _ e)
 so_steps p q x false true u hs ht hu e = let z : q ≡ p = cc in inl ((bytes_eq-Decides x (codes ".")).0 ht, z)
 so_steps p q x false false true hs ht hu e = inr (inl ((bytes_eq-Decides x (codes "..")).0 hu, parent_some p q e))
 so_steps p q x false false false hs ht hu e = let z : q ≡ p ++ (x ∷ []) = cc in inr (inr (and_from _ _ (not_from_false _ hs) (and_from _ _ (not_from_false _ ht) (not_from_false _ hu)), z))
 
 pub walks_so : (xs p r : List Name) → Walks p xs r → walked p xs ≡ Some r
 walks_so [] p r e = ap Some (sym e)
-walks_so (x ∷ xs) p r (q, s, w) = ap (λ o. and_then o (λ l. walked l xs)) (steps_so p q x s) ∙ walks_so xs q r w
+walks_so (x ∷ xs) p r (q, s, w) = ap (λ o. option_and_then (λ l. walked l xs) o) (steps_so p q x s) ∙ walks_so xs q r w
 
 pub so_walks : (xs p r : List Name) → walked p xs ≡ Some r → Walks p xs r
 so_walks [] p r e = let z : r ≡ p = cc in z

@@ -12,6 +12,7 @@ use Rattle.std.proofs.lemmas.Iterator.{YieldsList}
 use Rattle.std.specs.Str.{bytes_eq}
 use Rattle.std.proofs.lemmas.Slice.Eq.{bytes_eq-Decides}
 use Rattle.std.proofs.lemmas.Bool.{and_parts, and_from, or_parts, not-false, le-leb, leb-false}
+use Rattle.std.specs.Option.{option_and_then}
 use Rattle.names.specs.Names.{Name, every}
 use Rattle.names.proofs.Every.{every_append}
 use Rattle.outcome.specs.declared.Outcome.{Outcome}
@@ -19,7 +20,6 @@ use Rattle.outcome.specs.declared.Outcome.TheVariants.{Nothing}
 use Rattle.outcome.specs.Joining.{joined, joined_all, SameMembers}
 use Rattle.outcome.proofs.Joins.{laws, joined_all_push}
 use Rattle.record.specs.declared.denial.Denial.{Denial}
-use Rattle.host.specs.Paths.{and_then}
 use Rattle.host.specs.Holding.{RefusesKeys}
 use Rattle.host.specs.MappedHosts.{Row, says, placed, good_row, good_rows, bad_row_behind, mapped_to, RefusesToMap, no_memory, bad_key, OrderOfRowsAndRowsWrittenTwiceDoNotAffectAnAnswer}
 
@@ -48,7 +48,7 @@ said_again f rows others same = record {
 pub order_of_rows : (ks : List Name) (rows : List Row) → OrderOfRowsAndRowsWrittenTwiceDoNotAffectAnAnswer ks rows
 order_of_rows ks rows others same m x = by (slice_get ks m)
   where
-    by : (o : Option Name) → and_then o (λ j. mapped_to ks others j x) ≡ and_then o (λ j. mapped_to ks rows j x)
+    by : (o : Option Name) → option_and_then (λ j. mapped_to ks others j x) o ≡ option_and_then (λ j. mapped_to ks rows j x) o
     by None = refl
     by (Some j) = ap (placed ks) ((laws bytes_eq bytes_eq-Decides).lists_order_and_repetition _ _ (said_again (says j x) rows others same))
 

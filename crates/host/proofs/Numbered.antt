@@ -4,26 +4,25 @@ use Rattle.std.specs.List.{slice_get}
 use Rattle.std.specs.Option.{option_map}
 use Rattle.std.specs.Str.{bytes_eq}
 use Rattle.std.proofs.lemmas.Slice.Eq.{bytes_eq-Decides}
-use Rattle.std.proofs.lemmas.Option.{slice_get-get_or}
+use Rattle.std.proofs.lemmas.Option.{slice_get-get_or, none-some}
 use Rattle.std.proofs.lemmas.Bool.{and_parts, or_left, or_right, not-true, cond-true, cond-false, both_ways}
 use Rattle.names.specs.Names.{Name, among, distinct, every}
 use Rattle.names.specs.Keys.{key}
 use Rattle.host.specs.Holding.{place_of, holdable, EachKeyHasItsNumberAsItsPlace}
 use Rattle.host.specs.Lawful.{held_at}
 use Rattle.host.proofs.Finding.{position_more}
-use Rattle.host.proofs.Walks.{never}
 
 -- where a key is sought, there it stands
 pub at_its_place : (ks : List Name) (j : Name) (m : ℕ) → place_of ks j ≡ Some m → slice_get ks m ≡ Some j
 at_its_place ks j m e = let h = held_at ks j m e in slice_get-get_or ks m [] h.0 ∙ ap Some h.1
 
 nth_among : (xs : List Name) (i : ℕ) (x : Name) → slice_get xs i ≡ Some x → among xs x ≡ true
-nth_among [] i x e = never e
+nth_among [] i x e = absurd (none-some _ e)
 nth_among (y ∷ xs) zero x e = let z : y ≡ x = cc in or_left _ _ ((bytes_eq-Decides y x).1 z)
 nth_among (y ∷ xs) (suc i) x e = or_right (bytes_eq y x) _ (nth_among xs i x e)
 
 distinct_numbered : (ks : List Name) → distinct ks ≡ true → (n : ℕ) (k : Name) → slice_get ks n ≡ Some k → place_of ks k ≡ Some n
-distinct_numbered [] d n k e = never e
+distinct_numbered [] d n k e = absurd (none-some _ e)
 distinct_numbered (x ∷ ks) d zero k e = let z : x ≡ k = cc in position_more (λ y. bytes_eq y k) x ks ∙ cond-true (bytes_eq x k) (Some 0) _ ((bytes_eq-Decides x k).1 z)
 distinct_numbered (x ∷ ks) d (suc n) k e =
     let p = and_parts (not (among ks x)) (distinct ks) d in

@@ -5,14 +5,14 @@ use mathlib.Core.List.{Memᴰ}
 use Rattle.std.specs.Str.{bytes_eq}
 use Rattle.std.proofs.lemmas.Slice.Eq.{bytes_eq-Decides}
 use Rattle.std.proofs.lemmas.Bool.{and_parts, and_from, cond-true}
+use Rattle.std.specs.Option.{option_and_then}
+use Rattle.std.proofs.lemmas.Option.{none-some}
 use Rattle.names.specs.Names.{Name}
 use Rattle.outcome.specs.declared.Outcome.{Outcome}
 use Rattle.outcome.specs.declared.Outcome.TheVariants.{Nothing, One, Several}
 use Rattle.outcome.specs.Joining.{joined, joined_all}
-use Rattle.host.specs.Paths.{and_then}
 use Rattle.host.specs.Holding.{place_of, holdable}
 use Rattle.host.specs.MappedHosts.{Row, row_of, says, placed, mapped_to, mapped_hosting, OneTargetAt, FollowsRows}
-use Rattle.host.proofs.Walks.{never}
 use Rattle.host.proofs.Numbered.{at_its_place, no_key_there}
 
 clash : {B : Type 0} {t : Name} → ◌≡◌ {A = Outcome Name} Nothing (One t) → B
@@ -105,18 +105,18 @@ module _ (j x : Name) where
   said_one rows t m o = ⊎_elim (λ e. absurd (none_said rows e t m)) (λ e. e) (at_most_one rows t o)
 
 placed_one : (ks : List Name) (o : Outcome Name) (n : ℕ) → placed ks o ≡ Some n → (t : Name) × (o ≡ One t) × (place_of ks t ≡ Some n)
-placed_one ks Nothing n e = never e
+placed_one ks Nothing n e = absurd (none-some _ e)
 placed_one ks (One t) n e = (t, refl, e)
-placed_one ks Several n e = never e
+placed_one ks Several n e = absurd (none-some _ e)
 
 pub follows_rows : (ks : List Name) → holdable ks ≡ true → (rows : List Row) → FollowsRows rows (mapped_hosting ks rows)
-follows_rows ks ok rows = record { answers = answers; answered = answered; without_referrer = λ m h x. ap (λ o. and_then o (λ j. mapped_to ks rows j x)) (no_key_there ks ok m h) }
+follows_rows ks ok rows = record { answers = answers; answered = answered; without_referrer = λ m h x. ap (λ o. option_and_then (λ j. mapped_to ks rows j x) o) (no_key_there ks ok m h) }
   where
     answers : (j : Name) (m : ℕ) → place_of ks j ≡ Some m → (x : Name) (n : ℕ) → (mapped_hosting ks rows).follow m x ≡ Some n → OneTargetAt (mapped_hosting ks rows) rows j x n
     answers j m e x n f =
-        let (t, g, h) = placed_one ks (joined_all bytes_eq (map (says j x) rows)) n (sym (ap (λ o. and_then o (λ k. mapped_to ks rows k x)) (at_its_place ks j m e)) ∙ f) in
+        let (t, g, h) = placed_one ks (joined_all bytes_eq (map (says j x) rows)) n (sym (ap (λ o. option_and_then (λ k. mapped_to ks rows k x) o) (at_its_place ks j m e)) ∙ f) in
         let s = one_said j x rows t g in
         record { target = t; said = s.0; only = s.1; held = h }
 
     answered : (j : Name) (m : ℕ) → place_of ks j ≡ Some m → (x : Name) (n : ℕ) → OneTargetAt (mapped_hosting ks rows) rows j x n → (mapped_hosting ks rows).follow m x ≡ Some n
-    answered j m e x n o = ap (λ k. and_then k (λ i. mapped_to ks rows i x)) (at_its_place ks j m e) ∙ ap (placed ks) (said_one j x rows o.target o.said o.only) ∙ o.held
+    answered j m e x n o = ap (λ k. option_and_then (λ i. mapped_to ks rows i x) k) (at_its_place ks j m e) ∙ ap (placed ks) (said_one j x rows o.target o.said o.only) ∙ o.held

@@ -3,26 +3,25 @@ use Rattle.std.proofs.Common.{◌≡◌, ℕ, ◌+◌, true, false, List, [], �
 use Rattle.std.specs.Str.{bytes_eq}
 use Rattle.std.proofs.lemmas.List.{same_from_push, nil_from_length}
 use Rattle.std.proofs.lemmas.Bool.{cond-true, cond-false}
+use Rattle.std.specs.Option.{option_and_then}
+use Rattle.std.proofs.lemmas.Option.{none-some}
 use Rattle.names.specs.Names.{Name}
-use Rattle.host.specs.Paths.{and_then, without_last, parent, stepped, walked}
-
-pub never : {A B : Type 0} {x : A} → ◌≡◌ {A = Option A} None (Some x) → B
-never {A} {B} {x} e = absurd (let z : ◌≡◌ {A = ℕ} 0 1 = cc in omega arith)
+use Rattle.host.specs.Paths.{without_last, parent, stepped, walked}
 
 -- an answer that came of another
-pub then_some : {A B : Type 0} (o : Option A) (f : A → Option B) (b : B) → and_then o f ≡ Some b → (a : A) × (o ≡ Some a) × (f a ≡ Some b)
-then_some None f b e = never e
+pub then_some : {A B : Type 0} (o : Option A) (f : A → Option B) (b : B) → option_and_then f o ≡ Some b → (a : A) × (o ≡ Some a) × (f a ≡ Some b)
+then_some None f b e = absurd (none-some _ e)
 then_some (Some a) f b e = (a, refl, e)
 
-then_same : {A : Type 0} (o : Option A) → and_then o Some ≡ o
+then_same : {A : Type 0} (o : Option A) → option_and_then Some o ≡ o
 then_same None = refl
 then_same (Some a) = refl
 
-pub walked_append : (p : List Name) (xs ys : List Name) → walked p (xs ++ ys) ≡ and_then (walked p xs) (λ q. walked q ys)
+pub walked_append : (p : List Name) (xs ys : List Name) → walked p (xs ++ ys) ≡ option_and_then (λ q. walked q ys) (walked p xs)
 walked_append p [] ys = refl
 walked_append p (x ∷ xs) ys = by (stepped p x) (λ q. walked_append q xs ys)
   where
-    by : (o : Option (List Name)) → ((q : List Name) → walked q (xs ++ ys) ≡ and_then (walked q xs) (λ r. walked r ys)) → and_then o (λ q. walked q (xs ++ ys)) ≡ and_then (and_then o (λ q. walked q xs)) (λ q. walked q ys)
+    by : (o : Option (List Name)) → ((q : List Name) → walked q (xs ++ ys) ≡ option_and_then (λ r. walked r ys) (walked q xs)) → option_and_then (λ q. walked q (xs ++ ys)) o ≡ option_and_then (λ q. walked q ys) (option_and_then (λ q. walked q xs) o)
     by None h = refl
     by (Some q) h = h q
 
@@ -45,7 +44,7 @@ last_of x (z ∷ zs) = let (y, e) = last_of z zs in (y, ap (λ l. x ∷ l) e)
 
 -- a path that has a parent
 pub parent_some : (p q : List Name) → parent p ≡ Some q → (y : Name) × (p ≡ q ++ (y ∷ []))
-parent_some [] q e = never e
+parent_some [] q e = absurd (none-some _ e)
 parent_some (x ∷ xs) q e = let (y, h) = last_of x xs in let same : without_last (x ∷ xs) ≡ q = cc in (y, h ∙ ap (λ l. l ++ (y ∷ [])) same)
 
 -- segments of which there are some have a last one
@@ -99,7 +98,7 @@ module _ (s : List Name) (n : ℕ) where
         back h =
             let (q, f, g) = (b p).1 h in
             let (r, e, i) = (a q).1 g in
-            (r, walked_append p xs ys ∙ ap (λ o. and_then o (λ q. walked q ys)) f ∙ e, i)
+            (r, walked_append p xs ys ∙ ap (λ o. option_and_then (λ q. walked q ys) o) f ∙ e, i)
 
     pub back_never : (xs t : List Name) (m : ℕ) → Alike ys s n t m → Never xs t m → Never (xs ++ ys) s n
     back_never xs t m a b p (r, e, h) = let (q, f, g) = then_some (walked p xs) (λ q. walked q ys) r (sym (walked_append p xs ys) ∙ e) in b p (q, f, (a q).0 (r, g, h))

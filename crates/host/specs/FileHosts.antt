@@ -2,10 +2,11 @@
 use Rattle.std.specs.Prelude.{◌≡◌, ℕ, ◌<◌, Bool, true, cond, not, ◌&&◌, ◌⊎◌, List, [], ◌∷◌, ◌++◌, map, length, Some, None, codes, Option}
 use Rattle.std.specs.List.{slice_get}
 use Rattle.std.specs.Str.{bytes_eq}
+use Rattle.std.specs.Option.{option_and_then}
 use Rattle.names.specs.Names.{Name, every}
 use Rattle.names.specs.Keys.{parts, path, not_slash}
 use Rattle.record.specs.Meanings.{Hosting}
-use Rattle.host.specs.Paths.{and_then, without_last, walked, relative}
+use Rattle.host.specs.Paths.{without_last, walked, relative}
 use Rattle.host.specs.Holding.{place_of}
 
 -- the directory of a key: its segments without the last
@@ -14,11 +15,11 @@ directory j = without_last (parts j)
 
 -- where a specifier leads from a referrer: to the key at the end of its parts, walked from the referrer's directory
 abbrev pub led_to : List Name → Name → Name → Option ℕ
-led_to ks j x = cond (relative (parts x)) (and_then (walked (directory j) (parts x)) (λ p. place_of ks (path p))) None
+led_to ks j x = cond (relative (parts x)) (option_and_then (λ p. place_of ks (path p)) (walked (directory j) (parts x))) None
 
 -- the host of these keys
 abbrev pub file_hosting : List Name → Hosting
-file_hosting ks = record { seek = place_of ks; follow = λ m x. and_then (slice_get ks m) (λ j. led_to ks j x) }
+file_hosting ks = record { seek = place_of ks; follow = λ m x. option_and_then (λ j. led_to ks j x) (slice_get ks m) }
 
 -- a specifier begins with `./` or `../`
 abbrev pub Begins : Name → Type 0

@@ -6,6 +6,8 @@ use Rattle.std.specs.Str.{bytes_eq}
 use Rattle.std.proofs.lemmas.Slice.Eq.{bytes_eq-Decides}
 use Rattle.std.proofs.lemmas.Bool.{and_parts, leb-true}
 use Rattle.std.proofs.lemmas.List.Quantifiers.{position-Some}
+use Rattle.std.specs.Option.{option_and_then}
+use Rattle.std.proofs.lemmas.Option.{none-some}
 use Rattle.names.specs.Names.{Name, distinct, every}
 use Rattle.names.specs.Keys.{key, parts, path}
 use Rattle.names.proofs.Keys.{key_decides}
@@ -13,13 +15,10 @@ use Rattle.outcome.specs.declared.Outcome.{Outcome}
 use Rattle.outcome.specs.declared.Outcome.TheVariants.{Nothing, One, Several}
 use Rattle.outcome.specs.Joining.{joined_all}
 use Rattle.record.specs.Meanings.{LawfulHost}
-use Rattle.host.specs.Paths.{and_then, walked, relative}
+use Rattle.host.specs.Paths.{walked, relative}
 use Rattle.host.specs.Holding.{place_of, holdable}
 use Rattle.host.specs.FileHosts.{directory, led_to, file_hosting}
 use Rattle.host.specs.MappedHosts.{Row, says, placed, mapped_to, mapped_hosting}
-
-nothing : {B : Type 0} {m : ℕ} → ◌≡◌ {A = Option ℕ} None (Some m) → B
-nothing {B} {m} e = absurd (let z : ◌≡◌ {A = ℕ} 0 1 = cc in omega arith)
 
 -- the place of a key held is within the keys, and the key stands there
 pub held_at : (ks : List Name) (x : Name) (m : ℕ) → place_of ks x ≡ Some m → (m < length ks) × (slice_index_or ks m [] ≡ x)
@@ -31,8 +30,8 @@ every_at p (x ∷ xs) Prim.Native.Nat.zero d h l = (and_parts (p x) (every p xs)
 every_at p (x ∷ xs) (suc m) d h l = every_at p xs m d (and_parts (p x) (every p xs) h).1 (omega arith)
 
 -- what comes of an answer is below a bound, if it is so from each
-below_then : {A : Type 0} (o : Option A) (f : A → Option ℕ) (n : ℕ) → ((a : A) → f a ≡ Some n → n < 32) → and_then o f ≡ Some n → n < 32
-below_then None f n h e = nothing e
+below_then : {A : Type 0} (o : Option A) (f : A → Option ℕ) (n : ℕ) → ((a : A) → f a ≡ Some n → n < 32) → option_and_then f o ≡ Some n → n < 32
+below_then None f n h e = absurd (none-some _ e)
 below_then (Some a) f n h e = h a e
 
 module _ (ks : List Name) (ok : holdable ks ≡ true) where
@@ -45,9 +44,9 @@ module _ (ks : List Name) (ok : holdable ks ≡ true) where
   below : (x : Name) (m : ℕ) → place_of ks x ≡ Some m → m < 32
   below x m e = let h = (held_at ks x m e).0 in omega (arith, few)
 
-  led_below : (j x : Name) (n : ℕ) (t : Bool) → cond t (and_then (walked (directory j) (parts x)) (λ p. place_of ks (path p))) None ≡ Some n → n < 32
+  led_below : (j x : Name) (n : ℕ) (t : Bool) → cond t (option_and_then (λ p. place_of ks (path p)) (walked (directory j) (parts x))) None ≡ Some n → n < 32
   led_below j x n true e = below_then (walked (directory j) (parts x)) (λ p. place_of ks (path p)) n (λ p h. below (path p) n h) e
-  led_below j x n false e = nothing e
+  led_below j x n false e = absurd (none-some _ e)
 
   -- a host that seeks so, and follows to places below 32
   pub lawful_if : (follow : ℕ → Name → Option ℕ) → ((m : ℕ) (x : Name) (n : ℕ) → follow m x ≡ Some n → n < 32) → LawfulHost (record { seek = place_of ks; follow = follow })
@@ -65,6 +64,6 @@ module _ (ks : List Name) (ok : holdable ks ≡ true) where
   mapped_hosting_lawful rows = lawful_if _ (λ m x n e. below_then (slice_get ks m) (λ j. mapped_to ks rows j x) n (λ j h. placed_below (joined_all bytes_eq (map (says j x) rows)) n h) e)
     where
       placed_below : (o : Outcome Name) (n : ℕ) → placed ks o ≡ Some n → n < 32
-      placed_below Nothing n e = nothing e
+      placed_below Nothing n e = absurd (none-some _ e)
       placed_below (One t) n e = below t n e
-      placed_below Several n e = nothing e
+      placed_below Several n e = absurd (none-some _ e)

@@ -3,6 +3,7 @@ use Rattle.std.specs.Prelude.{◌≡◌, ℕ, Bool, true, cond, not, ◌&&◌, �
 use mathlib.Core.List.{Memᴰ}
 use Rattle.std.specs.List.{slice_get}
 use Rattle.std.specs.Str.{bytes_eq}
+use Rattle.std.specs.Option.{option_and_then}
 use Rattle.names.specs.Names.{Name, every}
 use Rattle.names.specs.Keys.{key}
 use Rattle.outcome.specs.declared.Outcome.{Outcome}
@@ -11,7 +12,6 @@ use Rattle.outcome.specs.Joining.{joined_all, SameMembers}
 use Rattle.record.specs.declared.denial.Denial.{Denial}
 use Rattle.record.specs.Meanings.{Hosting}
 use Rattle.record.specs.Memory.{memory_denial}
-use Rattle.host.specs.Paths.{and_then}
 use Rattle.host.specs.Holding.{place_of, holdable, refused_at, FirstBad, FirstMisplaced}
 use Rattle.host.specs.declared.row.Row as code
 
@@ -44,7 +44,7 @@ mapped_to ks rows j x = placed ks (joined_all bytes_eq (map (says j x) rows))
 
 -- the host of these keys and rows
 abbrev pub mapped_hosting : List Name → List Row → Hosting
-mapped_hosting ks rows = record { seek = place_of ks; follow = λ m x. and_then (slice_get ks m) (λ j. mapped_to ks rows j x) }
+mapped_hosting ks rows = record { seek = place_of ks; follow = λ m x. option_and_then (λ j. mapped_to ks rows j x) (slice_get ks m) }
 
 abbrev pub row_of : Name → Name → Name → Row
 row_of j x t = record { referrer = j; specifier = x; target = t }

@@ -1,13 +1,9 @@
 -- Where the parts of a specifier lead, from a directory.
 use Rattle.std.specs.Prelude.{Bool, false, cond, ◌||◌, List, [], ◌∷◌, ◌++◌, Some, None, codes, Option}
 use Rattle.std.specs.Str.{bytes_eq}
+use Rattle.std.specs.Option.{option_and_then}
 use Rattle.names.specs.Names.{Name}
 use Rattle.names.specs.Keys.{parts}
-
--- what follows from an answer, where there is one
-abbrev pub and_then : {A B : Type 0} → Option A → (A → Option B) → Option B
-and_then None f = None
-and_then (Some x) f = f x
 
 -- segments without the last
 abbrev pub without_last : List Name → List Name
@@ -27,7 +23,7 @@ stepped p x = cond (bytes_eq x []) None (cond (bytes_eq x (codes ".")) (Some p) 
 -- where parts lead, one after another
 abbrev pub walked : List Name → List Name → Option (List Name)
 walked p [] = Some p
-walked p (x ∷ xs) = and_then (stepped p x) (λ q. walked q xs)
+walked p (x ∷ xs) = option_and_then (λ q. walked q xs) (stepped p x)
 
 -- the parts of a specifier that begins with `./` or `../`
 abbrev pub relative : List Name → Bool

@@ -2,9 +2,9 @@ use Rattle.std.proofs.Common.{◌≡◌, true, false, Some, sym, ap, ◌∙◌, 
 use Rattle.std.proofs.lemmas.Bool.{cond-true}
 use Rattle.std.proofs.lemmas.Iterator.{YieldsList-from_slice, IsFirst-from_position}
 use Rattle.std.specs.List.{slice_get}
-use Rattle.std.specs.Option.{option_map}
+use Rattle.std.specs.Option.{option_map, option_and_then}
 use Rattle.names.specs.Keys.{key, parts}
-use Rattle.host.specs.Paths.{and_then, walked}
+use Rattle.host.specs.Paths.{walked}
 use Rattle.host.specs.Holding.{all_now}
 use Rattle.host.specs.FileHosts.{directory, led_to}
 use Rattle.host.proofs.Following.{all_keys, key_at_place, led, tells, led_place}
@@ -25,4 +25,4 @@ returns c =
     (YieldsList-from_slice rs (c.iter.ensures.rest ∙ c.deref.ensures.value))
     (λ k q called held. sym (tells j x k.now.now true is_key held (search rules)))
     (λ k q called. (search rules, λ held. sym (tells j x k.now.now false is_key held (search rules)))))
-    ∙ sym (cond-true _ _ _ (sym c.is_relative.ensures ∙ c.if-not-is_relative.false)) ∙ sym (ap (λ p. and_then p (λ i. led_to ks i x)) at)
+    ∙ sym (cond-true _ _ _ (sym c.is_relative.ensures ∙ c.if-not-is_relative.false)) ∙ sym (ap (λ p. option_and_then (λ i. led_to ks i x) p) at)
