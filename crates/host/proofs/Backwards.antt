@@ -1,5 +1,5 @@
 -- Going back over a path part by part, and what it tells at the top.
-use Rattle.std.proofs.Common.{◌≡◌, ℕ, ◌+◌, ◌<◌, ◌≤◌, Bool, true, false, cond, eqb, List, [], ◌∷◌, ◌++◌, length, is_some, Some, None, MatchOption, Decides, Option, sym, refl, ap, ◌∙◌, subst, append_assoc, append-nil, arith, length-append}
+use Rattle.std.proofs.Common.{◌≡◌, ℕ, ◌+◌, ◌<◌, ◌≤◌, Bool, true, false, cond, eqb, List, [], ◌∷◌, ◌++◌, length, is_some, Some, None, MatchOption, Decides, Option, sym, ap, ◌∙◌, subst, append_assoc, append-nil, arith, length-append, Bor}
 use Rattle.std.specs.Option.{option_map}
 use Rattle.std.proofs.lemmas.List.{nil_from_length}
 use Rattle.std.proofs.lemmas.Bool.{false≢true}
@@ -74,10 +74,6 @@ back_over xs ys start (Some g) None b m f = back_never (aim start) start.extra y
 back_over xs ys start (Some g) (Some h) b m f = back_more (aim start) start.extra ys xs (aim g) g.extra (aim h) h.extra b (f g m)
 
 -- a goal that has a path is not met at the top
-pub not_met : (o : Option Name) (n : ℕ) → is_some o ≡ true → ¬ ((more : List Name) × (length more ≡ n) × ([] ≡ segments o ++ more))
-not_met None n e m = absurd (false≢true e)
-not_met (Some p) n e (more, k, h) = let l = ap length h in omega (arith, parts_some p, length-append (parts p) more)
-
-pub still_some : {A B : Type 0} (f : A → B) (o : Option A) → is_some (option_map f o) ≡ is_some o
-still_some f None = refl
-still_some f (Some x) = refl
+pub not_met : (o : Option (Bor (List ℕ))) (n : ℕ) → is_some o ≡ true → ¬ ((more : List Name) × (length more ≡ n) × ([] ≡ segments (option_map (λ x. x.now) o) ++ more))
+not_met None n e m = false≢true e
+not_met (Some p) n e (more, k, h) = let l = ap length h in omega (arith, parts_some p.now, length-append (parts p.now) more)
