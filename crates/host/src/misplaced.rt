@@ -22,6 +22,7 @@ pub(crate) fn first_misplaced(keys: &[&[u8]]) -> Option<usize>
     (0..keys.len()).find(|i| is_misplaced(&keys[..*i], keys[*i]))
 }
 
+// The denial of keys or rows at the number of one of them.
 pub(crate) fn refused(number: usize) -> Denial
     ensures { result ≡ refused_at number }
 {
