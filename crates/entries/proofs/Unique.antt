@@ -3,7 +3,7 @@ use Rattle.std.proofs.Common.{◌≡◌, ℕ, ◌<◌, ◌≤◌, true, false, �
 use Rattle.std.proofs.lemmas.List.{map-append}
 use Rattle.std.proofs.lemmas.Bool.{and_parts, and_from, leb-true, le-leb, both_ways}
 use Rattle.names.specs.Names.{among, distinct, every}
-use Rattle.names.proofs.Every.{every_append}
+use Rattle.std.proofs.lemmas.List.Folds.{list_all-append}
 use Rattle.names.proofs.Distinct.{distinct_push, distinct_split}
 use Rattle.entries.specs.declared.stop.Stop.{Stop}
 use Rattle.entries.specs.declared.stop.Stop.TheVariants.{Malformed, TooMany, Repeated}
@@ -35,7 +35,7 @@ module _ {E : Type 0} (F : Format E) where
   well_formed_more es e w g l a =
       let p = parts es w in
       and_from _ _
-      (every_append F.good es (e ∷ []) ∙ and_from _ _ p.each (and_from _ _ g refl))
+      (list_all-append F.good es (e ∷ []) ∙ and_from _ _ p.each (and_from _ _ g refl))
       (and_from _ _
       (le-leb _ 32 (let n = length-append es (e ∷ []) in omega arith))
       (ap distinct (map-append F.name es (e ∷ [])) ∙ distinct_push (map F.name es) (F.name e) p.apart a))

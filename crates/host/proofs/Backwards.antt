@@ -4,7 +4,8 @@ use Rattle.std.specs.Option.{option_map}
 use Rattle.std.proofs.lemmas.List.{nil_from_length}
 use Rattle.std.proofs.lemmas.Bool.{false≢true}
 use Rattle.names.specs.Names.{Name}
-use Rattle.names.specs.Keys.{before, parts}
+use Rattle.std.specs.List.{onto_first}
+use Rattle.names.specs.Keys.{parts}
 use Rattle.host.specs.Paths.{segments, walked, without_last}
 use Rattle.host.specs.Goals.{SplitsLast, aim, Meets, LeadsTo, GoesBack}
 use Rattle.host.specs.declared.goal.Goal.{Goal}
@@ -46,7 +47,7 @@ pub parts_some : (p : Name) → 0 < length (parts p)
 parts_some [] = omega arith
 parts_some (b ∷ p) = by (eqb b 47) (parts p) (parts_some p)
   where
-    by : (t : Bool) (l : List Name) → 0 < length l → 0 < length (cond t ([] ∷ l) (before b l))
+    by : (t : Bool) (l : List Name) → 0 < length l → 0 < length (cond t ([] ∷ l) (onto_first b l))
     by true l h = omega arith
     by false [] h = omega arith
     by false (x ∷ xs) h = omega arith

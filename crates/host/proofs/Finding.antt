@@ -10,7 +10,7 @@ use Rattle.std.proofs.lemmas.Bool.{and_parts, and_from, or_parts, cond-true, con
 use Rattle.std.proofs.lemmas.Bool.Decides.{nat_tests}
 use Rattle.names.specs.Names.{Name, among, distinct, every}
 use Rattle.names.specs.Keys.{key}
-use Rattle.names.proofs.Every.{every_append}
+use Rattle.std.proofs.lemmas.List.Folds.{list_all-append}
 use Rattle.names.proofs.Distinct.{distinct_push}
 use Rattle.host.specs.Holding.{all_now, holdable, misplaced, FirstBad}
 
@@ -62,7 +62,7 @@ holdable_more ks x well m =
     let v = or_parts (not (key x)) (among ks x) u.1 in
     let q = and_parts (every key ks) (distinct ks && leb (length ks) 32) well in
     let s = and_parts (distinct ks) (leb (length ks) 32) q.1 in
-    and_from _ _ (every_append key ks (x ∷ []) ∙ and_from _ _ q.0 (and_from _ _ (not-false (key x) v.0) refl)) (and_from _ _ (distinct_push ks x s.0 v.1) (le-leb _ 32 (let n = length-append ks (x ∷ []) in omega arith)))
+    and_from _ _ (list_all-append key ks (x ∷ []) ∙ and_from _ _ q.0 (and_from _ _ (not-false (key x) v.0) refl)) (and_from _ _ (distinct_push ks x s.0 v.1) (le-leb _ 32 (let n = length-append ks (x ∷ []) in omega arith)))
 
 -- the test for a held name
 pub among_now : (rs : List (Bor (List ℕ))) (x : Name) → list_any (λ y. bytes_eq y.now x) rs ≡ among (all_now rs) x

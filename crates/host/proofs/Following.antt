@@ -9,7 +9,7 @@ use Rattle.std.proofs.lemmas.Bool.{and_parts, and_from, cond-true, false≢true,
 use Rattle.std.specs.Option.{option_and_then}
 use Rattle.names.specs.Names.{Name, every, distinct}
 use Rattle.names.specs.Keys.{key, parts, path}
-use Rattle.names.proofs.Every.{every_append}
+use Rattle.std.proofs.lemmas.List.Folds.{list_all-append}
 use Rattle.names.proofs.Keys.{path_parts}
 use Rattle.host.specs.Paths.{parent, walked, relative}
 use Rattle.host.specs.Holding.{place_of, holdable, all_now}
@@ -98,10 +98,10 @@ module _ (ks : List Name) (ok : holdable ks ≡ true) where
 
   module _ (j k : Name) (n : ℕ) (f : place_of ks k ≡ Some n) (shared up down : List Name) (from : directory j ≡ shared ++ up) (to : parts k ≡ shared ++ down) where
     down_has : (q : Name → Bool) → every q (parts k) ≡ true → every q down ≡ true
-    down_has q h = (and_parts (every q shared) (every q down) (sym (every_append q shared down) ∙ sym (ap (every q) to) ∙ h)).1
+    down_has q h = (and_parts (every q shared) (every q down) (sym (list_all-append q shared down) ∙ sym (ap (every q) to) ∙ h)).1
 
     way_slashless : every slashless (way up down) ≡ true
-    way_slashless = every_append slashless (map (λ _. codes "..") up) down ∙ and_from _ _ (outs_slashless up) (down_has slashless (parts_slashless k))
+    way_slashless = list_all-append slashless (map (λ _. codes "..") up) down ∙ and_from _ _ (outs_slashless up) (down_has slashless (parts_slashless k))
 
     way_leads : walked (directory j) (way up down) ≡ Some (parts k)
     way_leads =

@@ -8,8 +8,9 @@ use Rattle.std.proofs.lemmas.Bool.{and_parts, and_from, or_cases, not-true, not_
 use Rattle.std.specs.Option.{option_and_then}
 use Rattle.std.proofs.lemmas.Option.{none-some}
 use Rattle.names.specs.Names.{Name, every}
-use Rattle.names.specs.Keys.{segment, segment_byte, key, parts, path, before, not_slash}
-use Rattle.names.proofs.Every.{every_append}
+use Rattle.std.specs.List.{onto_first}
+use Rattle.names.specs.Keys.{segment, segment_byte, key, parts, path, not_slash}
+use Rattle.std.proofs.lemmas.List.Folds.{list_all-append}
 use Rattle.names.proofs.Keys.{parts_last, parts_cut, path_parts}
 use Rattle.host.specs.Paths.{without_last, parent, stepped, walked, relative}
 use Rattle.host.specs.FileHosts.{directory, ordinary, Begins, Steps, Walks}
@@ -58,7 +59,7 @@ pub parts_slashless : (s : Name) → every slashless (parts s) ≡ true
 parts_slashless [] = refl
 parts_slashless (b ∷ s) = by (eqb b 47) refl (parts s) (parts_slashless s)
   where
-    by : (t : Bool) → eqb b 47 ≡ t → (l : List Name) → every slashless l ≡ true → every slashless (cond t ([] ∷ l) (before b l)) ≡ true
+    by : (t : Bool) → eqb b 47 ≡ t → (l : List Name) → every slashless l ≡ true → every slashless (cond t ([] ∷ l) (onto_first b l)) ≡ true
     by true e l h = h
     by false e [] h = and_from _ _ (and_from _ _ (not_from_false _ e) refl) refl
     by false e (x ∷ xs) h = let s = and_parts (slashless x) (every slashless xs) h in and_from _ _ (and_from _ _ (not_from_false _ e) s.0) s.1
@@ -68,8 +69,8 @@ module _ (q : Name → Bool) where
   chosen_keeps : (p r : List Name) (x : Name) (s t u : Bool) → every q p ≡ true → q x ≡ true → cond s None (cond t (Some p) (cond u (parent p) (Some (p ++ (x ∷ []))))) ≡ Some r → every q r ≡ true
   chosen_keeps p r x true t u h i e = absurd (none-some _ e)
   chosen_keeps p r x false true u h i e = let z : p ≡ r = cc in sym (ap (every q) z) ∙ h
-  chosen_keeps p r x false false true h i e = let (y, g) = parent_some p r e in (and_parts (every q r) (every q (y ∷ [])) (sym (every_append q r (y ∷ [])) ∙ sym (ap (every q) g) ∙ h)).0
-  chosen_keeps p r x false false false h i e = let z : p ++ (x ∷ []) ≡ r = cc in sym (ap (every q) z) ∙ every_append q p (x ∷ []) ∙ and_from _ _ h (and_from _ _ i refl)
+  chosen_keeps p r x false false true h i e = let (y, g) = parent_some p r e in (and_parts (every q r) (every q (y ∷ [])) (sym (list_all-append q r (y ∷ [])) ∙ sym (ap (every q) g) ∙ h)).0
+  chosen_keeps p r x false false false h i e = let z : p ++ (x ∷ []) ≡ r = cc in sym (ap (every q) z) ∙ list_all-append q p (x ∷ []) ∙ and_from _ _ h (and_from _ _ i refl)
 
   pub walked_keeps : (xs p r : List Name) → every q p ≡ true → every q xs ≡ true → walked p xs ≡ Some r → every q r ≡ true
   walked_keeps [] p r h i e = let z : p ≡ r = cc in sym (ap (every q) z) ∙ h

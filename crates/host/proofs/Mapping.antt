@@ -13,7 +13,7 @@ use Rattle.std.proofs.lemmas.Slice.Eq.{bytes_eq-Decides}
 use Rattle.std.proofs.lemmas.Bool.{and_parts, and_from, or_parts, not-false, le-leb, leb-false}
 use Rattle.std.specs.Option.{option_and_then}
 use Rattle.names.specs.Names.{Name, every}
-use Rattle.names.proofs.Every.{every_append}
+use Rattle.std.proofs.lemmas.List.Folds.{list_all-append}
 use Rattle.outcome.specs.declared.Outcome.{Outcome}
 use Rattle.outcome.specs.declared.Outcome.TheVariants.{Nothing}
 use Rattle.outcome.specs.Joining.{joined, joined_all, SameMembers}
@@ -28,7 +28,7 @@ good_more rows r well m =
     let u = or_parts (leb 64 (length rows)) (not (good_row r)) m in
     let few = leb-false 64 (length rows) u.0 in
     let q = and_parts (every good_row rows) (leb (length rows) 64) well in
-    and_from _ _ (every_append good_row rows (r ∷ []) ∙ and_from _ _ q.0 (and_from _ _ (not-false (good_row r) u.1) refl)) (le-leb _ 64 (let n = length-append rows (r ∷ []) in omega arith))
+    and_from _ _ (list_all-append good_row rows (r ∷ []) ∙ and_from _ _ q.0 (and_from _ _ (not-false (good_row r) u.1) refl)) (le-leb _ 64 (let n = length-append rows (r ∷ []) in omega arith))
 
 -- a chain that gives outcomes, and a fold that joins them
 pub joined_over : {S A C F : Type 0} {steps : S → Option A → S → Type 0} {g : Mut F (C × (A × Unit {0})) C} {f : F} {s : S} {a r : C} (v : A → Outcome Name) (w : C → Outcome Name) → (xs : List A) × (f' : F) × Drains steps s xs × FoldsTo {P = F × C} (λ p x q. Called g p.0 (p.1, (x, tt)) q.1 q.0) (f, a) xs (f', r) → w a ≡ Nothing → ((b : C) (x : A) (c : C) (h : F) → Called g f (b, (x, tt)) c h → (w c ≡ joined bytes_eq (w b) (v x)) × (h ≡ f)) → (all : List (Outcome Name)) → YieldsList steps v s all → w r ≡ joined_all bytes_eq all

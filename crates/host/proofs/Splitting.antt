@@ -6,16 +6,17 @@ use Rattle.std.proofs.lemmas.Bool.{and_from, not_from_false, ne_eqb, eqb-true, f
 use Rattle.std.specs.Bool.{MatchBool}
 use Rattle.std.specs.List.{IsAfterLastMatch}
 use Rattle.names.specs.Names.{Name, every}
-use Rattle.names.specs.Keys.{before, parts, not_slash}
+use Rattle.std.specs.List.{onto_first}
+use Rattle.names.specs.Keys.{parts, not_slash}
 use Rattle.names.proofs.Keys.{parts_last}
 use Rattle.host.specs.Paths.{segments}
 use Rattle.host.specs.Goals.{SplitsLast}
 
-before_append : (b : ℕ) (s t : Name) → before b (parts s ++ parts t) ≡ before b (parts s) ++ parts t
-before_append b [] t = refl
-before_append b (c ∷ s) t = by (eqb c 47) (parts s) refl
+onto_append : (b : ℕ) (s t : Name) → onto_first b (parts s ++ parts t) ≡ onto_first b (parts s) ++ parts t
+onto_append b [] t = refl
+onto_append b (c ∷ s) t = by (eqb c 47) (parts s) refl
   where
-    by : (u : Bool) (l : List Name) → parts s ≡ l → before b (cond u ([] ∷ l) (before c l) ++ parts t) ≡ before b (cond u ([] ∷ l) (before c l)) ++ parts t
+    by : (u : Bool) (l : List Name) → parts s ≡ l → onto_first b (cond u ([] ∷ l) (onto_first c l) ++ parts t) ≡ onto_first b (cond u ([] ∷ l) (onto_first c l)) ++ parts t
     by true l e = refl
     by false [] e = refl
     by false (x ∷ xs) e = refl
@@ -25,9 +26,9 @@ pub parts_append : (s t : Name) → parts (s ++ (47 ∷ t)) ≡ parts s ++ parts
 parts_append [] t = refl
 parts_append (b ∷ s) t = by (eqb b 47) (parts_append s t)
   where
-    by : (u : Bool) → parts (s ++ (47 ∷ t)) ≡ parts s ++ parts t → cond u ([] ∷ parts (s ++ (47 ∷ t))) (before b (parts (s ++ (47 ∷ t)))) ≡ cond u ([] ∷ parts s) (before b (parts s)) ++ parts t
+    by : (u : Bool) → parts (s ++ (47 ∷ t)) ≡ parts s ++ parts t → cond u ([] ∷ parts (s ++ (47 ∷ t))) (onto_first b (parts (s ++ (47 ∷ t)))) ≡ cond u ([] ∷ parts s) (onto_first b (parts s)) ++ parts t
     by true e = ap (λ l. [] ∷ l) e
-    by false e = ap (before b) e ∙ before_append b s t
+    by false e = ap (onto_first b) e ∙ onto_append b s t
 
 no_slash : (p : Name) → ((k : ℕ) → k < length p → ¬ (get_or p k 0 ≡ 47)) → every not_slash p ≡ true
 no_slash [] h = refl

@@ -5,32 +5,36 @@ use native.Mathlib.Nat.{sub-zero}
 use Rattle.std.specs.List.{position, position_or_len}
 use Rattle.std.proofs.lemmas.List.{take_rest}
 use Rattle.std.proofs.lemmas.List.Elements.{All-from_get_or}
-use Rattle.std.proofs.lemmas.List.Splits.{slice_split_none, slice_split_first, join_with_byte-slice_split}
+use Rattle.std.proofs.lemmas.List.Splits.{slice_split-cons_no, slice_split_none, slice_split_first, join_with_byte-slice_split}
 use Rattle.std.proofs.lemmas.List.Sums.{split_at_first, passes_at_first, fails_before_first}
 use Rattle.std.proofs.lemmas.Bool.{and_parts, and_from, true≢false, eqb-true, leb-true, le-leb, not-true}
 use Rattle.names.specs.Names.{Name, every}
-use Rattle.names.specs.Keys.{segment_byte, segment, path, Key, before, parts, key, not_slash, Splits}
+use Rattle.std.specs.List.{onto_first}
+use Rattle.names.specs.Keys.{segment_byte, segment, path, Key, parts, key, not_slash, Splits}
+
+abbrev pub is_slash : ℕ → Bool
+is_slash b = eqb b 47
 
 pub parts_last : (a : Name) → every not_slash a ≡ true → parts a ≡ a ∷ []
 parts_last [] h = refl
 parts_last (b ∷ a) h =
     let p = and_parts (not_slash b) (every not_slash a) h in
-    ap (λ t. cond t ([] ∷ parts a) (before b (parts a))) (not-true (eqb b 47) p.0) ∙ ap (before b) (parts_last a p.1)
+    slice_split-cons_no is_slash b a (not-true (is_slash b) p.0) ∙ ap (onto_first b) (parts_last a p.1)
 
 pub parts_cut : (a b : Name) → every not_slash a ≡ true → parts (a ++ (47 ∷ b)) ≡ a ∷ parts b
 parts_cut [] b h = refl
 parts_cut (c ∷ a) b h =
     let p = and_parts (not_slash c) (every not_slash a) h in
-    ap (λ t. cond t ([] ∷ parts (a ++ (47 ∷ b))) (before c (parts (a ++ (47 ∷ b))))) (not-true (eqb c 47) p.0) ∙ ap (before c) (parts_cut a b p.1)
+    slice_split-cons_no is_slash c (a ++ (47 ∷ b)) (not-true (is_slash c) p.0) ∙ ap (onto_first c) (parts_cut a b p.1)
 
 -- there is a part
 some_part : (s : Name) → (x : Name) × (xs : List Name) × (parts s ≡ x ∷ xs)
 some_part [] = ([], [], refl)
 some_part (b ∷ s) = by (eqb b 47) (some_part s)
   where
-    by : (t : Bool) → (x : Name) × (xs : List Name) × (parts s ≡ x ∷ xs) → (x : Name) × (xs : List Name) × (cond t ([] ∷ parts s) (before b (parts s)) ≡ x ∷ xs)
+    by : (t : Bool) → (x : Name) × (xs : List Name) × (parts s ≡ x ∷ xs) → (x : Name) × (xs : List Name) × (cond t ([] ∷ parts s) (onto_first b (parts s)) ≡ x ∷ xs)
     by true (x, xs, e) = ([], parts s, refl)
-    by false (x, xs, e) = (b ∷ x, xs, ap (before b) e)
+    by false (x, xs, e) = (b ∷ x, xs, ap (onto_first b) e)
 
 -- the parts joined again are the path
 pub path_parts : (k : Name) → path (parts k) ≡ k
@@ -70,9 +74,6 @@ key_decides k = (is, was)
     was q =
         let e : parts k ≡ q.first ∷ q.rest = sym (ap parts q.joined) ∙ parts_path q.first q.rest q.good in
         and_from (leb (length k) 63) (every segment (parts k)) (le-leb (length k) 63 q.short) (ap (every segment) e ∙ q.good)
-
-abbrev pub is_slash : ℕ → Bool
-is_slash b = eqb b 47
 
 -- a path comes apart at the first `/` that a search from the front finds, or is one part where it finds none
 pub splits : (p : Name) (r : Option ℕ) → r ≡ position is_slash p → MatchOption r (Splits p p None) (λ i. Splits p (take (i - 0) p) (Some (take (length p - (i + 1)) (drop (i + 1) p))))

@@ -1,4 +1,3 @@
 pub mod Distinct
-pub mod Every
 pub mod Keys
 pub mod Words

@@ -1,6 +1,6 @@
 -- Keys: segments joined by `/`.
 use Rattle.std.specs.Prelude.{◌≡◌, ℕ, ◌≤◌, Bool, true, not, ◌&&◌, ◌||◌, List, [], ◌∷◌, ◌++◌, length, Some, None, codes, Option, ◌==◌, nat_le}
-use Rattle.std.specs.List.{slice_split, onto_first, join_with_byte}
+use Rattle.std.specs.List.{slice_split, join_with_byte}
 use Rattle.std.specs.Str.{bytes_eq}
 use Rattle.names.specs.Names.{Name, every}
 use Rattle.names.specs.Words.{between, digit}
@@ -27,10 +27,6 @@ pub record Key (k : Name) : Type 0 where
 
 abbrev pub not_slash : ℕ → Bool
 not_slash b = not (b == 47)
-
--- the first byte goes before the first part
-abbrev pub before : ℕ → List Name → List Name
-before b xs = onto_first b xs
 
 -- the parts of a path between its `/`
 abbrev pub parts : Name → List Name
