@@ -1,8 +1,10 @@
 -- The stack is popped one node at a time.
-use Rattle.std.proofs.Common.{◌≡◌, ℕ, zero, suc, ◌-◌, ◌<◌, List, [], ◌∷◌, sym, refl, ap, ◌∙◌, subst, inl, inr, arith}
+use Rattle.std.proofs.Common.{◌≡◌, ℕ, ◌-◌, List, [], ◌∷◌, Some, None, length, get_or, sym, refl, ap, ◌∙◌, subst, inl, inr, arith}
 use mathlib.Core.Path.{subst⁻¹}
 use mathlib.Core.List.Memᴰ
 use mathlib.Core.List.{Memᴰ}
+use Rattle.std.proofs.lemmas.Option.{slice_get-get_or}
+use Rattle.std.specs.List.{slice_get}
 use Rattle.search.specs.declared.mark.Mark.{Mark}
 use Rattle.search.specs.declared.mark.Mark.TheVariants.{Open, Closed}
 use Rattle.search.specs.declared.node.Node.{Node}
@@ -80,30 +82,28 @@ module _ {S F : Type 0} {D : Deeds S F} {v : ℕ} {s0 : Search} {a0 : S} where
   pub popping_ends : {s : Search} {a : S} {r : List ℕ} {b : S} → Popping D v s0 a0 s a → s.stack ≡ v ∷ r → D.closes s0 a v v b → Finishes D s0 v (down_to v s0.stack) a0 b × (off_stack s v r ≡ close s0 v)
   popping_ends {s} {a} {r} {b} P e d = (P.rest b (subst⁻¹ (λ l. Finishes D s0 v l a b) (ap (down_to v) e ∙ down_to_same v r) (then_more d no_more)), close_end s v r e ∙ P.same)
 
-some_top : (l : List Node) (n v : ℕ) → Memᴰ v (downward l n) → 0 < n
-some_top l zero v h = elim h [ ]
-some_top l (suc n) v h = omega arith
+none_newest : (l : List Node) → slice_get l (length l - 1) ≡ None → l ≡ []
+none_newest [] e = refl
+none_newest (x ∷ l) e = let h : slice_get (x ∷ l) (length (x ∷ l) - 1) ≡ Some (get_or (x ∷ l) (length (x ∷ l) - 1) x) = slice_get-get_or (x ∷ l) (length (x ∷ l) - 1) x (omega arith) in grind arith
 
 -- the same on a lent stack m with the marks f, of which the newest node is taken
 module _ {S F : Type 0} {D : Deeds S F} {v : ℕ} {s0 : Search} {a0 : S} (f : ℕ → Mark) (m : Stack) {a : S} (P : Popping D v s0 a0 (shown f m) a) where
-  pub pop_some : 0 < m.top
-  pop_some = some_top m.nodes m.top v P.within
+  -- there is a newest node
+  pub pop_some : ¬ (newest m ≡ None)
+  pop_some e = elim (subst (λ l. Memᴰ v (downward l)) (none_newest m.nodes.items e) P.within) [ ]
 
-  module _ (node : Node) (q : node ≡ newest m) where
-    top_is : (shown f m).stack ≡ node.value ∷ downward m.nodes (m.top - 1)
-    top_is = newest_first m pop_some ∙ ap (λ (x : Node). x.value ∷ downward m.nodes (m.top - 1)) (sym q)
-
+  module _ (node : Node) (q : newest m ≡ Some node) where
     pub pop_open : f node.value ≡ Open
-    pop_open = popping_open P top_is
+    pop_open = popping_open P (newest_first m node q)
 
     module _ (m1 : Stack) (e : m1 ≡ popped m) (g : ℕ → Mark) (M : (x : ℕ) → g x ≡ put f node.value Closed x) {b : S} (d : D.closes s0 a node.value v b) where
-      shown_is : shown g m1 ≡ off_stack (shown f m) node.value (downward m.nodes (m.top - 1))
-      shown_is = ap (shown g) e ∙ shown_off f g m (λ x. M x ∙ ap (λ (y : Node). put f y.value Closed x) q) ∙ ap (λ (y : Node). off_stack (shown f m) y.value (downward m.nodes (m.top - 1))) (sym q)
+      shown_is : shown g m1 ≡ off_stack (shown f m) node.value (downward (popped m).nodes.items)
+      shown_is = ap (shown g) e ∙ shown_off f g m node.value M
 
       pub pop_more : ¬ (node.value ≡ v) → Popping D v s0 a0 (shown g m1) b
-      pop_more n = subst⁻¹ (λ z. Popping D v s0 a0 z b) shown_is (popping_more P top_is n d)
+      pop_more n = subst⁻¹ (λ z. Popping D v s0 a0 z b) shown_is (popping_more P (newest_first m node q) n d)
 
       pub pop_last : node.value ≡ v → Finishes D s0 v (down_to v s0.stack) a0 b × (shown g m1 ≡ close s0 v)
       pop_last n =
-          let E = popping_ends P (top_is ∙ ap (λ y. y ∷ downward m.nodes (m.top - 1)) n) (subst (λ y. D.closes s0 a y v b) n d) in
-          (E.0, shown_is ∙ ap (λ y. off_stack (shown f m) y (downward m.nodes (m.top - 1))) n ∙ E.1)
+          let E = popping_ends P (newest_first m node q ∙ ap (λ y. y ∷ downward (popped m).nodes.items) n) (subst (λ y. D.closes s0 a y v b) n d) in
+          (E.0, shown_is ∙ ap (λ y. off_stack (shown f m) y (downward (popped m).nodes.items)) n ∙ E.1)

@@ -1,12 +1,17 @@
 -- The steps on a lent stack are the steps of the search that it shows.
-use Rattle.std.proofs.Common.{◌≡◌, ℕ, zero, suc, ◌-◌, ◌<◌, ◌≤◌, min, List, ◌∷◌, length, get_or, set, replicate, sym, refl, ap, ◌∙◌, add-one, arith, get_or-set_other, get_or-set_same}
+use Rattle.std.proofs.Common.{◌≡◌, ℕ, zero, suc, ◌-◌, ◌<◌, min, List, [], ◌∷◌, ◌++◌, Some, length, map, reverse, take, replicate, get_or, set, sym, refl, ap, ◌∙◌, arith, get_or-set_other, get_or-set_same}
+use Rattle.std.proofs.lemmas.List.{map-append, reverse-append}
+use Rattle.std.proofs.lemmas.Option.{slice_get_within, get_or_from_slice_get}
+use Rattle.std.proofs.Math.Seq.{take-length, take-suc}
+use Rattle.std.specs.List.{slice_get}
 use native.Mathlib.Decide.{ℕ_discrete}
 use Rattle.search.specs.declared.mark.Mark.{Mark}
 use Rattle.search.specs.declared.mark.Mark.TheVariants.{Fresh, Open, Closed, Spoilt}
 use Rattle.search.specs.declared.node.Node.{Node}
 use Rattle.search.specs.declared.stack.Stack.{Stack}
+use Rattle.search.specs.declared.stack.Visit.{Visit}
 use Rattle.search.specs.Search.{Search, begin, put, enter, heed, lower}
-use Rattle.search.specs.Stacks.{zeroth, downward, shown, pushed, lowered, popped, newest}
+use Rattle.search.specs.Stacks.{unvisited, blank, visit_at, downward, shown, pushed, lowered, popped, newest}
 use Rattle.search.proofs.Basics.{put_at, put_else}
 
 -- two searches with the same marks, indices, low marks, stack and next index
@@ -16,6 +21,11 @@ search_path s t p q r k n = λ i. record { mark = λ x. p x i; index = λ x. q x
 pub shown_marks : (f g : ℕ → Mark) (m : Stack) → ((x : ℕ) → f x ≡ g x) → shown f m ≡ shown g m
 shown_marks f g m p = search_path (shown f m) (shown g m) p (λ x. refl) (λ x. refl) refl refl
 
+-- what is put where it stands changes nothing
+put_same : {A : Type 0} (f : ℕ → A) (v x : ℕ) → put f v (f v) x ≡ f x
+unfolding put
+put_same f v x = grind arith
+
 -- what f shows of a list, once an element is set
 pub set_put : {A B : Type 0} (f : A → B) (l : List A) (d : A) (v : ℕ) (a : A) → v < length l → (x : ℕ) → f (get_or (set l v a) x d) ≡ put (λ y. f (get_or l y d)) v (f a) x
 set_put f l d v a h x = elim (ℕ_discrete x v) [
@@ -23,27 +33,30 @@ set_put f l d v a h x = elim (ℕ_discrete x v) [
   | no n ↦ ap f (get_or-set_other l v x a d n) ∙ sym (put_else (λ y. f (get_or l y d)) v (f a) x n)
 ]
 
--- what is set above the first n is not among them
-downward_set : (l : List Node) (i : ℕ) (a : Node) (n : ℕ) → n ≤ i → downward (set l i a) n ≡ downward l n
-downward_set l i a zero h = refl
-downward_set l i a (suc n) h = (let p = get_or-set_other l i n a zeroth (omega arith) in let q = downward_set l i a n (omega arith) in cc)
+-- the last node of a list is the newest
+pub downward_last : (l : List Node) (v : Node) → downward (l ++ v ∷ []) ≡ v.value ∷ downward l
+downward_last l v = ap (λ (k : List ℕ). reverse k) (map-append (λ (x : Node). x.value) l (v ∷ [])) ∙ reverse-append (map (λ (x : Node). x.value) l) (v.value ∷ [])
 
-pub downward_length : (l : List Node) (n : ℕ) → length (downward l n) ≡ n
-downward_length l zero = refl
-downward_length l (suc n) = ap suc (downward_length l n)
-
-pub shown_enter : (f g : ℕ → Mark) (m : Stack) (v : Node) → ((x : ℕ) → g x ≡ put f v.value Open x) → length m.index ≡ 32 → length m.low ≡ 32 → length m.nodes ≡ 32 → m.top < 32 → shown g (pushed m v) ≡ enter (shown f m) v.value
-shown_enter f g m v M a b c d =
+pub shown_enter : (f g : ℕ → Mark) (m : Stack) (v : Node) → ((x : ℕ) → g x ≡ put f v.value Open x) → length m.visits ≡ 32 → shown g (pushed m v) ≡ enter (shown f m) v.value
+shown_enter f g m v M a =
+    let visit : Visit = record { index = m.next; low = m.next } in
     search_path (shown g (pushed m v)) (enter (shown f m) v.value)
     M
-    (set_put (λ z. z) m.index 0 v.value m.next (omega (arith, v.below)))
-    (set_put (λ z. z) m.low 0 v.value m.next (omega (arith, v.below)))
-    (ap (downward (set m.nodes m.top v)) (add-one m.top) ∙ (let p = get_or-set_same m.nodes m.top v zeroth (omega arith) in let q = downward_set m.nodes m.top v m.top (omega arith) in cc))
+    (set_put (λ (x : Visit). x.index) m.visits unvisited v.value visit (omega (arith, v.below)))
+    (set_put (λ (x : Visit). x.low) m.visits unvisited v.value visit (omega (arith, v.below)))
+    (downward_last m.nodes.items v)
     refl
 
-pub shown_lower : (f : ℕ → Mark) (m : Stack) (v w : ℕ) → v < length m.low → f w ≡ Open → shown f (lowered m v w) ≡ lower (shown f m) v w
+pub shown_lower : (f : ℕ → Mark) (m : Stack) (v w : ℕ) → v < length m.visits → f w ≡ Open → shown f (lowered m v w) ≡ lower (shown f m) v w
 unfolding heed
-shown_lower f m v w h o = search_path (shown f (lowered m v w)) (lower (shown f m) v w) (λ x. refl) (λ x. refl) (rw o (set_put (λ z. z) m.low 0 v (min (get_or m.low v 0) (get_or m.low w 0)) h)) refl refl
+shown_lower f m v w h o =
+    let visit : Visit = record { index = (visit_at m v).index; low = min (visit_at m v).low (visit_at m w).low } in
+    search_path (shown f (lowered m v w)) (lower (shown f m) v w)
+    (λ x. refl)
+    (λ x. set_put (λ (z : Visit). z.index) m.visits unvisited v visit h x ∙ put_same (λ y. (visit_at m y).index) v x)
+    (rw o (set_put (λ (x : Visit). x.low) m.visits unvisited v visit h))
+    refl
+    refl
 
 -- an arrow to a node that is not open lowers nothing
 pub lower_none : (s : Search) (v w : ℕ) → ¬ (s.mark w ≡ Open) → s ≡ lower s v w
@@ -56,22 +69,29 @@ lower_none s v w n = search_path s (lower s v w) (λ x. refl) (λ x. refl) (λ x
     kept Closed z = refl
     kept Spoilt z = refl
 
+-- all but the last element, and the last
+but_last : {A : Type 0} (l : List A) (x : A) → slice_get l (length l - 1) ≡ Some x → l ≡ take (length l - 1) l ++ x ∷ []
+but_last l x e =
+    let h : length l - 1 < length l = slice_get_within l (length l - 1) x e in
+    let s : length l ≡ suc (length l - 1) = omega (arith, h) in
+    sym (take-length l) ∙ ap (λ n. take n l) s ∙ take-suc l (length l - 1) x h ∙ ap (λ y. take (length l - 1) l ++ y ∷ []) (get_or_from_slice_get l (length l - 1) x x e)
+
 -- the newest node stands on the others
-pub newest_first : (m : Stack) → 0 < m.top → downward m.nodes m.top ≡ (newest m).value ∷ downward m.nodes (m.top - 1)
-newest_first m h = ap (downward m.nodes) (let q : m.top ≡ suc (m.top - 1) = omega arith in q)
+pub newest_first : (m : Stack) (x : Node) → newest m ≡ Some x → downward m.nodes.items ≡ x.value ∷ downward (popped m).nodes.items
+newest_first m x e = ap downward (but_last m.nodes.items x e) ∙ downward_last (popped m).nodes.items x
 
 -- the search with x, which is the newest, finished and popped
 abbrev pub off_stack : Search → ℕ → List ℕ → Search
 off_stack s x r = record { mark = put s.mark x Closed; index = s.index; low = s.low; stack = r; next = s.next }
 
-pub shown_off : (f g : ℕ → Mark) (m : Stack) → ((x : ℕ) → g x ≡ put f (newest m).value Closed x) → shown g (popped m) ≡ off_stack (shown f m) (newest m).value (downward m.nodes (m.top - 1))
-shown_off f g m M = search_path (shown g (popped m)) (off_stack (shown f m) (newest m).value (downward m.nodes (m.top - 1))) M (λ x. refl) (λ x. refl) refl refl
+pub shown_off : (f g : ℕ → Mark) (m : Stack) (x : ℕ) → ((y : ℕ) → g y ≡ put f x Closed y) → shown g (popped m) ≡ off_stack (shown f m) x (downward (popped m).nodes.items)
+shown_off f g m x M = search_path (shown g (popped m)) (off_stack (shown f m) x (downward (popped m).nodes.items)) M (λ y. refl) (λ y. refl) refl refl
 
-blank_at : (n x : ℕ) → ◌≡◌ {A = ℕ} (get_or (replicate n 0) x 0) 0
+blank_at : (n x : ℕ) → get_or (replicate n unvisited) x unvisited ≡ unvisited
 blank_at zero x = refl
 blank_at (suc n) zero = refl
 blank_at (suc n) (suc x) = blank_at n x
 
 -- a blank stack shows a search that begins
-pub shown_blank : (f : ℕ → Mark) (m : Stack) → m.index ≡ replicate 32 0 → m.low ≡ replicate 32 0 → m.top ≡ 0 → m.next ≡ 0 → shown f m ≡ begin f
-shown_blank f m p q r k = search_path (shown f m) (begin f) (λ x. refl) (λ x. ap (λ l. get_or l x 0) p ∙ blank_at 32 x) (λ x. ap (λ l. get_or l x 0) q ∙ blank_at 32 x) (ap (downward m.nodes) r) k
+pub shown_blank : (f : ℕ → Mark) → shown f blank ≡ begin f
+shown_blank f = search_path (shown f blank) (begin f) (λ x. refl) (λ x. ap (λ (v : Visit). v.index) (blank_at 32 x)) (λ x. ap (λ (v : Visit). v.low) (blank_at 32 x)) refl refl

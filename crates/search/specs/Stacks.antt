@@ -1,42 +1,49 @@
 -- What the stack that a caller lends shows of a search.
-use Rattle.std.specs.Prelude.{◌≡◌, ℕ, zero, suc, ◌+◌, ◌-◌, ◌≤◌, min, List, [], ◌∷◌, slice_index, slice_index_or, slice_set}
+use Rattle.std.specs.Prelude.{◌≡◌, ℕ, zero, suc, ◌+◌, ◌-◌, ◌≤◌, min, List, [], ◌∷◌, ◌++◌, Option, length, map, replicate, reverse, take, slice_get, slice_index_or, slice_set}
 use mathlib.Core.List.{Memᴰ}
-use Rattle.std.proofs.Common.{lit<}
 use Rattle.search.specs.declared.mark.Mark.{Mark}
 use Rattle.search.specs.declared.mark.Mark.TheVariants.{Fresh, Open, Closed, Spoilt}
 use Rattle.search.specs.declared.node.Node.{Node}
 use Rattle.search.specs.declared.stack.Stack.{Stack}
+use Rattle.search.specs.declared.stack.Visit.{Visit}
 use Rattle.search.specs.Search.{Search}
 use Rattle.search.specs.Laws.{Once}
 
--- the node 0
-abbrev pub zeroth : Node
-zeroth = record { value = 0; below = lit< tt }
+-- the index 0 and the low mark 0
+abbrev pub unvisited : Visit
+unvisited = record { index = 0; low = 0 }
 
--- the first n nodes, the last of them first
-abbrev pub downward : List Node → ℕ → List ℕ
-downward l zero = []
-downward l (suc n) = (slice_index_or l n zeroth).value ∷ downward l n
+-- a blank stack
+abbrev pub blank : Stack
+blank = record { visits = replicate 32 unvisited; nodes = record { items = [] }; next = 0 }
+
+-- the index and the low mark of a node
+abbrev pub visit_at : Stack → ℕ → Visit
+visit_at m x = slice_index_or m.visits x unvisited
+
+-- the nodes on the stack, the newest first
+abbrev pub downward : List Node → List ℕ
+downward l = reverse (map (λ (x : Node). x.value) l)
 
 -- the search that marks and a lent stack show
 abbrev pub shown : (ℕ → Mark) → Stack → Search
-shown f m = record { mark = f; index = λ x. slice_index m.index x; low = λ x. slice_index m.low x; stack = downward m.nodes m.top; next = m.next }
+shown f m = record { mark = f; index = λ x. (visit_at m x).index; low = λ x. (visit_at m x).low; stack = downward m.nodes.items; next = m.next }
 
 -- the node takes the next index as its index and its low mark, and goes on the stack
 abbrev pub pushed : Stack → Node → Stack
-pushed m v = record { index = slice_set m.index v.value m.next; low = slice_set m.low v.value m.next; nodes = slice_set m.nodes m.top v; top = m.top + 1; next = m.next + 1 }
+pushed m v = record { visits = slice_set m.visits v.value (record { index = m.next; low = m.next }); nodes = record { items = m.nodes.items ++ v ∷ [] }; next = m.next + 1 }
 
 -- the low mark of v becomes the smaller of those of v and w
 abbrev pub lowered : Stack → ℕ → ℕ → Stack
-lowered m v w = record { index = m.index; low = slice_set m.low v (min (slice_index m.low v) (slice_index m.low w)); nodes = m.nodes; top = m.top; next = m.next }
+lowered m v w = record { visits = slice_set m.visits v (record { index = (visit_at m v).index; low = min (visit_at m v).low (visit_at m w).low }); nodes = m.nodes; next = m.next }
 
--- the newest node is taken off
+-- the newest node is taken off, if there is one
 abbrev pub popped : Stack → Stack
-popped m = record { index = m.index; low = m.low; nodes = m.nodes; top = m.top - 1; next = m.next }
+popped m = record { visits = m.visits; nodes = record { items = take (length m.nodes.items - 1) m.nodes.items }; next = m.next }
 
--- the newest node
-abbrev pub newest : Stack → Node
-newest m = slice_index_or m.nodes (m.top - 1) zeroth
+-- the newest node, if there is one
+abbrev pub newest : Stack → Option Node
+newest m = slice_get m.nodes.items (length m.nodes.items - 1)
 
 -- 1 for a new node, else 0
 abbrev pub one : Mark → ℕ
@@ -52,7 +59,7 @@ count f (suc n) = one (f n) + count f n
 
 -- there is room on the stack, and there are indices, for each node that is new
 pub record Room (f : ℕ → Mark) (m : Stack) : Type 0 where
-  pub tops : m.top + count f 32 ≤ 32
+  pub tops : length m.nodes.items + count f 32 ≤ 32
   pub nexts : m.next + count f 32 ≤ 32
 
 -- the nodes on the stack are open, and each stands there once

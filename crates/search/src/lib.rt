@@ -21,17 +21,15 @@ pub use walk::Walk;
 
 /// Pops the stack through `root`, and finishes all that is popped.
 fn settle<W: Walk>(walk: &mut W, stack: &mut Stack, root: Node)
-    requires top { stack.old.top ≤ 32 }
     requires stacked { Stacked (shown (W.marks walk.old) stack.old) }
     requires within { Memᴰ root.value (shown (W.marks walk.old) stack.old).stack }
     ensures fixed { W.fixed walk.new ≡ W.fixed walk.old }
     ensures does { Finishes (W.deeds (W.fixed walk.old)) (shown (W.marks walk.old) stack.old) root.value (down_to root.value (shown (W.marks walk.old) stack.old).stack) (W.state walk.old) (W.state walk.new) }
     ensures after { shown (W.marks walk.new) stack.new ≡ close (shown (W.marks walk.old) stack.old) root.value }
 {
-    loop {
-        let node = stack.pop();
+    while let Some(node) = stack.pop() {
         walk.close(node, root);
-        if node.number() == root.number() {
+        if node == root {
             break;
         }
     }
@@ -54,7 +52,7 @@ fn enter<W: Walk>(walk: &mut W, stack: &mut Stack, node: Node)
 /// The low mark of `node` heeds that of `next`, if that is on the stack.
 fn heed<W: Walk>(walk: &W, stack: &mut Stack, node: Node, next: Node)
     ensures after { shown (W.marks walk.now) stack.new ≡ lower (shown (W.marks walk.now) stack.old) node.value next.value }
-    ensures top { stack.new.top ≡ stack.old.top }
+    ensures nodes { stack.new.nodes ≡ stack.old.nodes }
     ensures next { stack.new.next ≡ stack.old.next }
 {
     if let Mark::Open = walk.look(next) {

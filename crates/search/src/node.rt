@@ -2,12 +2,13 @@
 ghost use Rattle.std.specs.Prelude.{◌≡◌, ◌<◌, ◌≤◌, MatchOption};
 
 /// A node of a graph: a number below 32.
-#[derive(Clone, Copy)]
+#[derive(Clone, Copy, PartialEq, Eq)]
 pub struct Node {
     value: u8,
     ghost below: { value < 32 },
 }
 
+// `new` and `number` are like `new` and `get` of `NonZero`: the error of a `TryFrom` could say no more than `None`.
 impl Node {
     /// The node of this number, if it is below 32.
     pub fn new(number: usize) -> Option<Node>
@@ -22,18 +23,20 @@ impl Node {
         }
     }
 
-    /// The node 0.
-    pub(crate) fn zero() -> Node
-        ensures { result.value ≡ 0 }
-    {
-        Node { value: 0 }
-    }
-
     /// The number of the node.
     pub fn number(self) -> usize
         ensures value { result ≡ self.value }
         ensures bound { result < 32 }
     {
         self.value as usize
+    }
+}
+
+/// The node 0.
+impl Default for Node {
+    ghost is_default = { λ x. x.value ≡ 0 };
+
+    fn default() -> Node {
+        Node { value: 0 }
     }
 }

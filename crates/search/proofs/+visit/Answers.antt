@@ -1,12 +1,12 @@
 -- What is left to show of `visit`.
-use Rattle.std.proofs.Common.{◌≡◌, ◌<◌, get_or, sym, refl, ap, ◌∙◌, arith, eqb-true}
+use Rattle.std.proofs.Common.{◌≡◌, ◌<◌, sym, refl, ap, ◌∙◌, arith, eqb-true}
 use mathlib.Core.Path.{subst⁻¹}
 use Rattle.std.proofs.lemmas.Result.{err_from_is_err_and}
 use Rattle.std.specs.Option.{option_map}
 use Rattle.search.specs.declared.node.Node.{Node}
 use Rattle.search.specs.declared.stack.Stack.{Stack}
 use Rattle.search.specs.Search.{Search, start, hands_on, Visits}
-use Rattle.search.specs.Stacks.{shown, count, Room, Stacked}
+use Rattle.search.specs.Stacks.{visit_at, shown, count, Room, Stacked}
 use Rattle.search.proofs.Searching.{AtNode, node_stacked, node_within, node_fewer, node_inside, node_fails, node_stays, node_pops, one_further, passes, at_exit}
 use Rattle.search.proofs.Shown.{shown_marks}
 use Rattle.search.proofs.Counting.{room_same, room_closed}
@@ -66,7 +66,7 @@ loop-next-preserved g t c =
     let f = T.marks c.visit.new.walk in (
       one_further T.arrows T.deeds c.loop-next.invariant.0 c.loop-next.invariant.1 q c.in_ok-visit.ensures.does c.heed.ensures.after,
       c.visit.ensures.fixed ∙ c.loop-next.invariant.1,
-      room_same f f c.visit.new.stack c.heed.new.stack (λ y. refl) c.heed.ensures.top c.heed.ensures.next c.in_ok-visit.ensures.room,
+      room_same f f c.visit.new.stack c.heed.new.stack (λ y. refl) c.heed.ensures.nodes c.heed.ensures.next c.in_ok-visit.ensures.room,
     )
 
 pub returns-in_err-act : goal.returns-in_err-act
@@ -93,7 +93,6 @@ settle-requires g t c =
     let u = c.loop-next.invariant.0 in
     let e = shown_marks (T.marks c.act.new.self) (T.marks c.loop-next.walk) c.loop-next.stack c.act.ensures.marks in
     record {
-      top = omega (arith, c.loop-next.invariant.2.tops);
       stacked = subst⁻¹ (λ (s : Search). Stacked s) e (node_stacked T.arrows T.deeds N u);
       within = node_within T.arrows T.deeds N u;
     }
@@ -118,11 +117,11 @@ returns g t c =
       | then-is_lowest w ↦ record {
         fixed = ap T.fixed w.walk-is ∙ w.settle.ensures.fixed ∙ k;
         room = at_exit (λ x y. Room (T.marks x) y) w.walk-is w.stack-is (room_closed f1 (T.marks w.settle.new.walk) m w.settle.new.stack v w.settle.ensures.after R);
-        does = at_exit Done w.walk-is w.stack-is (node_pops T.arrows T.deeds N u c.loop-next.invariant.1 q e d (eqb-true (get_or m.low v 0) (get_or m.index v 0) (sym c.is_lowest.ensures ∙ w.if-is_lowest.true)) c.act.ensures.fixed w.settle.ensures.does w.settle.ensures.after);
+        does = at_exit Done w.walk-is w.stack-is (node_pops T.arrows T.deeds N u c.loop-next.invariant.1 q e d (eqb-true (visit_at m v).low (visit_at m v).index (sym c.is_lowest.ensures ∙ w.if-is_lowest.true)) c.act.ensures.fixed w.settle.ensures.does w.settle.ensures.after);
       }
       | else-is_lowest w ↦ record {
         fixed = ap T.fixed w.walk-is ∙ k;
         room = at_exit (λ x y. Room (T.marks x) y) w.walk-is w.stack-is R;
-        does = at_exit Done w.walk-is w.stack-is (node_stays T.arrows T.deeds N u c.loop-next.invariant.1 q e d (eqb-false (get_or m.low v 0) (get_or m.index v 0) (sym c.is_lowest.ensures ∙ w.if-is_lowest.false)));
+        does = at_exit Done w.walk-is w.stack-is (node_stays T.arrows T.deeds N u c.loop-next.invariant.1 q e d (eqb-false (visit_at m v).low (visit_at m v).index (sym c.is_lowest.ensures ∙ w.if-is_lowest.false)));
       }
     ]

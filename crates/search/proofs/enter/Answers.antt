@@ -1,5 +1,5 @@
 -- What is left to show of `enter`.
-use Rattle.std.proofs.Common.{◌≡◌, ◌+◌, ◌<◌, ap, ◌∙◌, arith}
+use Rattle.std.proofs.Common.{◌≡◌, ◌+◌, length, ap, ◌∙◌, arith, length-append}
 use Rattle.search.specs.declared.stack.Stack.{Stack}
 use Rattle.search.specs.Stacks.{shown}
 use Rattle.search.proofs.Counting.{count_opened}
@@ -10,7 +10,7 @@ pub push-requires : goal.push-requires
 push-requires g c =
     let T = g.W.Walk in
     let h = count_opened (T.marks c.args.walk.now) (T.marks c.open.new.self) c.args.node.value c.args.node.below c.requires.fresh (c.open.ensures.marks c.requires.fresh) in
-    (omega (arith, c.requires.room.tops), omega (arith, c.requires.room.nexts))
+    record { room = omega (arith, c.requires.room.tops); index = omega (arith, c.requires.room.nexts) }
 
 pub returns : goal.returns
 returns g c =
@@ -21,13 +21,12 @@ returns g c =
     let p = c.requires.fresh in
     let h = count_opened f f1 c.args.node.value c.args.node.below p (c.open.ensures.marks p) in
     let e = c.push.ensures.after in
-    let tops : c.push.new.self.top ≡ m.top + 1 = ap (λ (x : Stack). x.top) e in
+    let tops : length c.push.new.self.nodes.items ≡ length m.nodes.items + 1 = ap (λ (x : Stack). length x.nodes.items) e ∙ length-append m.nodes.items _ in
     let nexts : c.push.new.self.next ≡ m.next + 1 = ap (λ (x : Stack). x.next) e in
-    let room : m.top < 32 = omega (arith, c.requires.room.tops) in
     record {
       fixed = c.open.ensures.fixed p;
       state = c.open.ensures.state p;
-      after = ap (shown f1) e ∙ shown_enter f f1 m c.args.node (c.open.ensures.marks p) c.push.ensures.indices c.push.ensures.lows c.push.ensures.nodes room;
+      after = ap (shown f1) e ∙ shown_enter f f1 m c.args.node (c.open.ensures.marks p) c.push.ensures.visits;
       room = record { tops = omega (arith, c.requires.room.tops); nexts = omega (arith, c.requires.room.nexts) };
       fewer = h;
     }

@@ -10,8 +10,8 @@ returns-in-Open g c =
     let f = g.W.Walk.marks c.args.walk.now in
     let e = c.lower.ensures.after in
     record {
-      after = ap (shown f) e ∙ shown_lower f c.args.stack.now c.args.node.value c.args.next.value (omega (arith, c.lower.ensures.lows, c.args.node.below)) (sym c.look.ensures ∙ c.in-Open.is);
-      top = ap (λ (z : Stack). z.top) e;
+      after = ap (shown f) e ∙ shown_lower f c.args.stack.now c.args.node.value c.args.next.value (omega (arith, c.lower.ensures.visits, c.args.node.below)) (sym c.look.ensures ∙ c.in-Open.is);
+      nodes = ap (λ (z : Stack). z.nodes) e;
       next = ap (λ (z : Stack). z.next) e;
     }
 
@@ -20,6 +20,6 @@ returns-in_default g c =
     let f = g.W.Walk.marks c.args.walk.now in
     record {
       after = lower_none (shown f c.args.stack.now) c.args.node.value c.args.next.value (λ o. c.in_default.not-Open (c.look.ensures ∙ o));
-      top = refl;
+      nodes = refl;
       next = refl;
     }

@@ -1,9 +1,10 @@
 -- What is left to show of `search`.
-use Rattle.std.proofs.Common.{subst, arith}
+use Rattle.std.proofs.Common.{ap, ◌∙◌, subst, arith}
 use mathlib.Core.Path.{subst⁻¹}
+use Rattle.search.specs.declared.stack.Stack.{Stack}
 use Rattle.search.specs.Search.{Search, begin, Ends}
 use Rattle.search.specs.Laws.{none}
-use Rattle.search.specs.Stacks.{shown, Stacked}
+use Rattle.search.specs.Stacks.{shown, Room, Stacked}
 use Rattle.search.proofs.Counting.{count_most}
 use Rattle.search.proofs.Shown.{shown_blank}
 use Rattle.search.proofs.Lawful.{success_finishes, action_follows, popped_cycle, fault_reached}
@@ -16,17 +17,15 @@ visit-requires g c =
     let f = g.W.Walk.marks c.args.walk.now in
     let E = c.new.ensures in
     let h = count_most f 32 in
-    let b = shown_blank f c.new.result E.indices E.lows E.top E.next in
     record {
-      room = record { tops = omega (arith, E.top); nexts = omega (arith, E.next) };
-      stacked = subst⁻¹ (λ (s : Search). Stacked s) b (record { each_open = λ x m. elim m [ ]; once = none });
+      room = subst⁻¹ (λ (m : Stack). Room f m) E (record { tops = omega arith; nexts = omega arith });
+      stacked = subst⁻¹ (λ (s : Search). Stacked s) (ap (shown f) E ∙ shown_blank f) (record { each_open = λ x m. elim m [ ]; once = none });
     }
 
 pub returns : goal.returns
 returns g c =
     let T = g.W.Walk in
     let w = c.args.walk.now in
-    let E = c.new.ensures in
     let A = T.arrows (T.fixed w) in
     let D = T.deeds (T.fixed w) in
     let s = begin (T.marks w) in
@@ -34,7 +33,7 @@ returns g c =
     let t = shown (T.marks c.visit.new.walk) c.visit.new.stack in
     let b = T.state c.visit.new.walk in
     let r = c.visit.result in
-    let V = subst (λ (z : Search). Ends A D z (T.state w) v t b r) (shown_blank (T.marks w) c.new.result E.indices E.lows E.top E.next) c.visit.ensures.does in
+    let V = subst (λ (z : Search). Ends A D z (T.state w) v t b r) (ap (shown (T.marks w)) c.new.ensures ∙ shown_blank (T.marks w)) c.visit.ensures.does in
     record {
       fixed = c.visit.ensures.fixed;
       does = V;
