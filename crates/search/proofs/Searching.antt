@@ -1,5 +1,5 @@
 -- What the code of a visit does is a search.
-use Rattle.std.proofs.Common.{◌≡◌, ℕ, ◌+◌, ◌≤◌, List, Some, None, sym, refl, ap, ◌∙◌, subst}
+use Rattle.std.proofs.Common.{◌≡◌, ℕ, ◌+◌, ◌<◌, List, Some, None, sym, refl, ap, ◌∙◌, subst, arith}
 use mathlib.Core.Path.{subst⁻¹}
 use mathlib.Core.List.Memᴰ
 use mathlib.Core.List.{Memᴰ}
@@ -7,65 +7,80 @@ use Rattle.search.specs.declared.mark.Mark.{Mark}
 use Rattle.search.specs.declared.mark.Mark.TheVariants.{Fresh, Open, Closed, Spoilt}
 use Rattle.search.specs.declared.stack.Stack.{Stack}
 use Rattle.search.specs.Graph.{item}
-use Rattle.search.specs.Search.{Search, enter, lower, down_to, close, Deeds, Finishes, Visits, passes_open, passes_closed, stays, pops, Upto, further, Faults, here, inside}
+use Rattle.search.specs.Search.{Search, enter, lower, down_to, close, Deeds, Finishes, Visits, passes_open, passes_closed, stays, pops, Upto, start, further, Faults, here, inside}
 use Rattle.search.specs.Stacks.{count, Stacked}
 use Rattle.search.proofs.Preserving.{upto_preserve, StaysMet, met_preserved}
-use Rattle.search.proofs.Counting.{count_le}
+use Rattle.search.proofs.Counting.{count_le, count_opened}
 use Rattle.search.proofs.Stacking.{enter_stacked, StillStacked, upto_stacked}
 
--- v was new, and has been entered: from k0, s0 and a0 to k1, s1 and a1
-pub record AtNode {K S : Type 0} (k0 : K) (s0 : Search) (a0 : S) (v : ℕ) (k1 : K) (s1 : Search) (a1 : S) : Type 0 where
+-- v was new and has been entered, and its first i arrows are searched: from k0, s0 and a0 the search has come to k, t and b
+pub record Along {K S F : Type 0} (arrows : K → ℕ → List ℕ) (deeds : K → Deeds S F) (k0 : K) (s0 : Search) (a0 : S) (v i : ℕ) (k : K) (t : Search) (b : S) : Type 0 where
   pub fresh : s0.mark v ≡ Fresh
   pub stacked : Stacked s0
-  pub fixed : k1 ≡ k0
-  pub state : a1 ≡ a0
-  pub after : s1 ≡ enter s0 v
+  pub fixed : k ≡ k0
+  pub upto : Upto (arrows k0) (deeds k0) (enter s0 v) a0 v i t b
 
-module _ {K S F : Type 0} (arrows : K → ℕ → List ℕ) (deeds : K → Deeds S F) {k0 : K} {s0 : Search} {a0 : S} {v : ℕ} {k1 : K} {s1 : Search} {a1 : S} (N : AtNode k0 s0 a0 v k1 s1 a1) {i : ℕ} {t : Search} {b : S} (u : Upto (arrows k1) (deeds k1) s1 a1 v i t b) where
-  node_upto : Upto (arrows k0) (deeds k0) (enter s0 v) a0 v i t b
-  node_upto =
-      let A = subst (λ (k : K). Upto (arrows k) (deeds k) s1 a1 v i t b) N.fixed u in
-      let B = subst (λ (a : S). Upto (arrows k0) (deeds k0) s1 a v i t b) N.state A in
-      subst (λ (s : Search). Upto (arrows k0) (deeds k0) s a0 v i t b) N.after B
+module _ {K S F : Type 0} {arrows : K → ℕ → List ℕ} {deeds : K → Deeds S F} {k0 : K} {s0 : Search} {a0 : S} {v : ℕ} where
+  pub along_starts : {k : K} {t : Search} {b : S} → s0.mark v ≡ Fresh → Stacked s0 → k ≡ k0 → b ≡ a0 → t ≡ enter s0 v → Along arrows deeds k0 s0 a0 v 0 k t b
+  along_starts {b = b} f K p q e = record {
+    fresh = f;
+    stacked = K;
+    fixed = p;
+    upto = subst⁻¹ (λ (s : Search). Upto (arrows k0) (deeds k0) (enter s0 v) a0 v 0 s b) e (subst⁻¹ (λ (a : S). Upto (arrows k0) (deeds k0) (enter s0 v) a0 v 0 (enter s0 v) a) q start);
+  }
 
-  node_still : StillStacked (enter s0 v) t
-  node_still = upto_stacked node_upto (enter_stacked N.stacked N.fresh)
+  module _ {i : ℕ} {k : K} {t : Search} {b : S} (A : Along arrows deeds k0 s0 a0 v i k t b) where
+    -- one arrow more: the search came to u, and its low mark heeded
+    pub along_further : {k1 : K} {w : ℕ} {u u1 : Search} {c : S} → item (arrows k v) i ≡ Some w → Visits (arrows k) (deeds k) t b w u c → k1 ≡ k → u1 ≡ lower u v w → Along arrows deeds k0 s0 a0 v (i + 1) k1 u1 c
+    along_further {w = w} {u = u} {c = c} q V p e = record {
+      fresh = A.fresh;
+      stacked = A.stacked;
+      fixed = p ∙ A.fixed;
+      upto =
+          subst⁻¹ (λ (z : Search). Upto (arrows k0) (deeds k0) (enter s0 v) a0 v (i + 1) z c) e
+          (further A.upto (subst (λ (k : K). item (arrows k v) i ≡ Some w) A.fixed q) (subst (λ (k : K). Visits (arrows k) (deeds k) t b w u c) A.fixed V));
+    }
 
-  pub node_stacked : Stacked t
-  node_stacked = node_still.stacked
+    along_still : StillStacked (enter s0 v) t
+    along_still = upto_stacked A.upto (enter_stacked A.stacked A.fresh)
 
-  pub node_within : Memᴰ v t.stack
-  node_within = let G = node_still.grown in subst⁻¹ (λ l. Memᴰ v l) G.is (Memᴰ.append_right G.top (Memᴰ.head refl))
+    pub along_stacked : Stacked t
+    along_stacked = along_still.stacked
 
-  -- no node is new that was not
-  pub node_fewer : count t.mark 32 ≤ count s1.mark 32
-  node_fewer = count_le s1.mark t.mark 32 (upto_preserve StaysMet met_preserved u)
+    pub along_within : Memᴰ v t.stack
+    along_within = let G = along_still.grown in subst⁻¹ (λ l. Memᴰ v l) G.is (Memᴰ.append_right G.top (Memᴰ.head refl))
 
-  pub node_inside : {w : ℕ} {t1 : Search} {c : S} {n : ℕ} {e : F} {k : K} → k ≡ k1 → item (arrows k v) i ≡ Some w → Faults (arrows k) (deeds k) t b w t1 c n e → Faults (arrows k0) (deeds k0) s0 a0 v t1 c n e
-  node_inside {w} {t1} {c} {n} {e} p q h =
-      inside N.fresh node_upto (subst (λ (k : K). item (arrows k v) i ≡ Some w) (p ∙ N.fixed) q) (subst (λ (k : K). Faults (arrows k) (deeds k) t b w t1 c n e) (p ∙ N.fixed) h)
+    -- fewer nodes are new than before v was entered
+    pub along_fewer : v < 32 → count t.mark 32 < count s0.mark 32
+    along_fewer l =
+        let h = count_opened s0.mark (enter s0 v).mark v l A.fresh (λ x. refl) in
+        let k = count_le (enter s0 v).mark t.mark 32 (upto_preserve StaysMet met_preserved A.upto) in
+        omega arith
 
-  pub node_fails : {t1 : Search} {c : S} {e : F} {k : K} → k ≡ k1 → item (arrows k v) i ≡ None → t1 ≡ t → (deeds k).fails t b v c e → Faults (arrows k0) (deeds k0) s0 a0 v t1 c v e
-  node_fails {t1} {c} {e} p q g h =
-      subst⁻¹ (λ (s : Search). Faults (arrows k0) (deeds k0) s0 a0 v s c v e) g
-      (here N.fresh node_upto (subst (λ (k : K). item (arrows k v) i ≡ None) (p ∙ N.fixed) q) (subst (λ (k : K). (deeds k).fails t b v c e) (p ∙ N.fixed) h))
+    pub along_inside : {w : ℕ} {t1 : Search} {c : S} {n : ℕ} {e : F} → item (arrows k v) i ≡ Some w → Faults (arrows k) (deeds k) t b w t1 c n e → Faults (arrows k0) (deeds k0) s0 a0 v t1 c n e
+    along_inside {w} {t1} {c} {n} {e} q h =
+        inside A.fresh A.upto (subst (λ (k : K). item (arrows k v) i ≡ Some w) A.fixed q) (subst (λ (k : K). Faults (arrows k) (deeds k) t b w t1 c n e) A.fixed h)
 
-  pub node_stays : {t1 : Search} {c : S} {k : K} → k ≡ k1 → item (arrows k v) i ≡ None → t1 ≡ t → (deeds k).acts t b v c → ¬ (t1.low v ≡ t1.index v) → Visits (arrows k0) (deeds k0) s0 a0 v t1 c
-  node_stays {t1} {c} p q g h n =
-      subst⁻¹ (λ (s : Search). Visits (arrows k0) (deeds k0) s0 a0 v s c) g
-      (stays N.fresh node_upto (subst (λ (k : K). item (arrows k v) i ≡ None) (p ∙ N.fixed) q) (subst (λ (k : K). (deeds k).acts t b v c) (p ∙ N.fixed) h) (subst (λ (s : Search). ¬ (s.low v ≡ s.index v)) g n))
+    -- no arrow is left, and the action follows, with the marks as they are
+    module _ (q : item (arrows k v) i ≡ None) {t1 : Search} (g : t1 ≡ t) where
+      none_left : item (arrows k0 v) i ≡ None
+      none_left = subst (λ (k : K). item (arrows k v) i ≡ None) A.fixed q
 
-  pub node_pops : {t1 t2 : Search} {c d : S} {k k2 : K} → k ≡ k1 → item (arrows k v) i ≡ None → t1 ≡ t → (deeds k).acts t b v c → t1.low v ≡ t1.index v → k2 ≡ k → Finishes (deeds k2) t1 v (down_to v t1.stack) c d → t2 ≡ close t1 v → Visits (arrows k0) (deeds k0) s0 a0 v t2 d
-  node_pops {t1} {t2} {c} {d} p q g h n r m z =
-      let M = subst (λ (k : K). Finishes (deeds k) t1 v (down_to v t1.stack) c d) (r ∙ p ∙ N.fixed) m in
-      subst⁻¹ (λ (s : Search). Visits (arrows k0) (deeds k0) s0 a0 v s d) (z ∙ ap (λ (s : Search). close s v) g)
-      (pops N.fresh node_upto (subst (λ (k : K). item (arrows k v) i ≡ None) (p ∙ N.fixed) q) (subst (λ (k : K). (deeds k).acts t b v c) (p ∙ N.fixed) h) (subst (λ (s : Search). s.low v ≡ s.index v) g n) (subst (λ (s : Search). Finishes (deeds k0) s v (down_to v s.stack) c d) g M))
+      pub along_fails : {c : S} {e : F} → (deeds k).fails t b v c e → Faults (arrows k0) (deeds k0) s0 a0 v t1 c v e
+      along_fails {c} {e} h =
+          subst⁻¹ (λ (s : Search). Faults (arrows k0) (deeds k0) s0 a0 v s c v e) g
+          (here A.fresh A.upto none_left (subst (λ (k : K). (deeds k).fails t b v c e) A.fixed h))
 
--- one arrow more: the search came to u, and its low mark heeded
-pub one_further : {K S F : Type 0} (arrows : K → ℕ → List ℕ) (deeds : K → Deeds S F) {k k1 : K} {s : Search} {a : S} {v i : ℕ} {t : Search} {b : S} {w : ℕ} {u u1 : Search} {c : S} → Upto (arrows k1) (deeds k1) s a v i t b → k ≡ k1 → item (arrows k v) i ≡ Some w → Visits (arrows k) (deeds k) t b w u c → u1 ≡ lower u v w → Upto (arrows k1) (deeds k1) s a v (i + 1) u1 c
-one_further {K} arrows deeds {k1 = k1} {s = s} {a = a} {v = v} {i = i} {t = t} {b = b} {w = w} {u = u} {c = c} U p q V e =
-    subst⁻¹ (λ (z : Search). Upto (arrows k1) (deeds k1) s a v (i + 1) z c) e
-    (further U (subst (λ (k : K). item (arrows k v) i ≡ Some w) p q) (subst (λ (k : K). Visits (arrows k) (deeds k) t b w u c) p V))
+      pub along_stays : {c : S} → (deeds k).acts t b v c → ¬ (t1.low v ≡ t1.index v) → Visits (arrows k0) (deeds k0) s0 a0 v t1 c
+      along_stays {c} h n =
+          subst⁻¹ (λ (s : Search). Visits (arrows k0) (deeds k0) s0 a0 v s c) g
+          (stays A.fresh A.upto none_left (subst (λ (k : K). (deeds k).acts t b v c) A.fixed h) (subst (λ (s : Search). ¬ (s.low v ≡ s.index v)) g n))
+
+      pub along_pops : {k1 : K} {c d : S} {t2 : Search} → (deeds k).acts t b v c → t1.low v ≡ t1.index v → k1 ≡ k → Finishes (deeds k1) t1 v (down_to v t1.stack) c d → t2 ≡ close t1 v → Visits (arrows k0) (deeds k0) s0 a0 v t2 d
+      along_pops {c = c} {d = d} h n r m z =
+          let M = subst (λ (k : K). Finishes (deeds k) t1 v (down_to v t1.stack) c d) (r ∙ A.fixed) m in
+          subst⁻¹ (λ (s : Search). Visits (arrows k0) (deeds k0) s0 a0 v s d) (z ∙ ap (λ (s : Search). close s v) g)
+          (pops A.fresh A.upto none_left (subst (λ (k : K). (deeds k).acts t b v c) A.fixed h) (subst (λ (s : Search). s.low v ≡ s.index v) g n) (subst (λ (s : Search). Finishes (deeds k0) s v (down_to v s.stack) c d) g M))
 
 -- a node that is neither new nor spoilt is passed over
 pub passes : {arrows : ℕ → List ℕ} {S F : Type 0} {D : Deeds S F} {s : Search} {a : S} {v : ℕ} (k : Mark) → k ≡ s.mark v → ¬ (k ≡ Fresh) → ¬ (k ≡ Spoilt) → Visits arrows D s a v s a

@@ -1,12 +1,12 @@
 // A depth-first search for the cycles of a graph, for every graph of 32 nodes and every action.
 #![tactic(auto)]
 
-ghost use Rattle.std.specs.Prelude.{◌≡◌, ◌<◌, ◌≤◌, OnOk};
+ghost use Rattle.std.specs.Prelude.{◌≡◌, OnOk};
 ghost use mathlib.Core.List.{Memᴰ};
 ghost use Rattle.search.specs.Search.{begin, enter as entered, lower, down_to, close, Finishes, Ends};
 ghost use Rattle.search.specs.Laws.{Lawful};
 ghost use Rattle.search.specs.Running.{RunsAreSearches, RunsComputeIt};
-ghost use Rattle.search.specs.Stacks.{shown, count, Room, Stacked};
+ghost use Rattle.search.specs.Stacks.{shown, Room, Stacked};
 ghost use Rattle.search.specs.declared.mark.Mark.TheVariants.{Fresh};
 
 mod mark;
@@ -43,7 +43,6 @@ fn enter<W: Walk>(walk: &mut W, stack: &mut Stack, node: Node)
     ensures state { W.state walk.new ≡ W.state walk.old }
     ensures after { shown (W.marks walk.new) stack.new ≡ entered (shown (W.marks walk.old) stack.old) node.value }
     ensures room { Room (W.marks walk.new) stack.new }
-    ensures fewer { count (W.marks walk.new) 32 < count (W.marks walk.old) 32 }
 {
     walk.open(node);
     stack.push(node);
@@ -73,6 +72,7 @@ fn visit<W: Walk>(walk: &mut W, stack: &mut Stack, node: Node) -> Result<(), W::
         _ => return Ok(()),
     }
     enter(walk, stack, node);
+    // `for i in 0..` was tried, and does not prove: it ends at `usize::MAX`, where no call has said that no arrow is left.
     let mut i = 0;
     while let Some(next) = walk.arrow(node, i) {
         visit(walk, stack, next)?;

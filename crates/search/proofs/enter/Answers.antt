@@ -28,5 +28,4 @@ returns g c =
       state = c.open.ensures.state p;
       after = ap (shown f1) e ∙ shown_enter f f1 m c.args.node (c.open.ensures.marks p) c.push.ensures.visits;
       room = record { tops = omega (arith, c.requires.room.tops); nexts = omega (arith, c.requires.room.nexts) };
-      fewer = h;
     }
