@@ -1,16 +1,12 @@
 -- How many nodes are new, and the room for them.
-use Rattle.std.proofs.Common.{◌≡◌, ℕ, zero, suc, ◌<◌, ◌≤◌, List, [], ◌∷◌, length, map, sym, refl, ap, ◌∙◌, arith}
+use Rattle.std.proofs.Common.{◌≡◌, ℕ, zero, suc, ◌<◌, ◌≤◌, length, sym, refl, ap, ◌∙◌, arith}
 use native.Mathlib.Decide.{ℕ_discrete}
-use Rattle.std.proofs.lemmas.List.{length-map, length-reverse}
-use Rattle.arrayvec.specs.ArrayVec.{ArrayVec}
 use Rattle.search.specs.declared.mark.Mark.{Mark}
 use Rattle.search.specs.declared.mark.Mark.TheVariants.{Fresh, Open, Closed, Spoilt}
-use Rattle.search.specs.declared.node.Node.{Node}
 use Rattle.search.specs.declared.stack.Stack.{Stack}
-use Rattle.search.specs.Search.{Search, put, under, close}
-use Rattle.search.specs.Stacks.{downward, shown, one, count, Room}
+use Rattle.search.specs.Search.{put}
+use Rattle.search.specs.Stacks.{one, count, Room}
 use Rattle.search.proofs.Basics.{put_here, put_else, open_not_fresh, fresh?}
-use Rattle.search.proofs.Preserving.{close_met}
 
 one_le : (k m : Mark) → (¬ (k ≡ Fresh) → ¬ (m ≡ Fresh)) → one m ≤ one k
 one_le k Fresh h = elim (fresh? k) [ yes f ↦ rw f (omega arith) | no n ↦ absurd (h n refl) ]
@@ -47,27 +43,6 @@ count_most f (suc n) = omega (arith, one_le Fresh (f n) (λ z. absurd (z refl)),
 pub count_opened : (f g : ℕ → Mark) (v : ℕ) → v < 32 → f v ≡ Fresh → ((x : ℕ) → g x ≡ put f v Open x) → count g 32 < count f 32
 count_opened f g v l p M = count_less f g v 32 l p (λ q. open_not_fresh (M v ∙ put_here f v Open) q) (λ x n q. elim (ℕ_discrete x v) [ yes e ↦ n (ap f e ∙ p) | no m ↦ n (sym (put_else f v Open x m) ∙ sym (M x) ∙ q) ])
 
-under_length : (v : ℕ) (l : List ℕ) → length (under v l) ≤ length l
-unfolding under
-under_length v [] = omega arith
-under_length v (x ∷ l) = (let h = under_length v l in grind arith)
-
-downward_length : (l : List Node) → length (downward l) ≡ length l
-downward_length l = length-reverse (map (λ (x : Node). x.value) l) ∙ length-map l (λ (x : Node). x.value)
-
--- there is no less room after a pop
-pub room_closed : (f g : ℕ → Mark) (m n : Stack) (v : ℕ) → shown g n ≡ close (shown f m) v → Room f m → Room g n
-room_closed f g m n v e R =
-    let a = ap (λ (s : Search). length s.stack) e in
-    let b = ap (λ (s : Search). s.next) e in
-    let p = downward_length m.nodes.items in
-    let q = downward_length n.nodes.items in
-    let h = under_length v (downward m.nodes.items) in
-    let k = count_le f g 32 (λ x z w. close_met (shown f m) v x z (sym (ap (λ (s : Search). s.mark x) e) ∙ w)) in
-    record { tops = omega (arith, R.tops); nexts = omega (arith, R.nexts) }
-
-pub room_same : (f g : ℕ → Mark) (m n : Stack) → ((x : ℕ) → g x ≡ f x) → n.nodes ≡ m.nodes → n.next ≡ m.next → Room f m → Room g n
-room_same f g m n e p q R =
-    let k = count_le f g 32 (λ x z w. z (sym (e x) ∙ w)) in
-    let l = ap (λ (v : ArrayVec Node). length v.items) p in
-    record { tops = omega (arith, R.tops); nexts = omega (arith, R.nexts) }
+-- there is no less room where no node is new that was not, and no more nodes are on the stack
+pub room_kept : (f g : ℕ → Mark) (m n : Stack) → ((x : ℕ) → ¬ (f x ≡ Fresh) → ¬ (g x ≡ Fresh)) → length n.nodes.items ≤ length m.nodes.items → n.next ≡ m.next → Room f m → Room g n
+room_kept f g m n h l q R = let k = count_le f g 32 h in record { tops = omega (arith, R.tops); nexts = omega (arith, R.nexts) }

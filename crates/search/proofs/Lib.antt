@@ -12,5 +12,5 @@ pub mod Shown
 pub mod Popping
 pub mod Counting
 pub mod Stacking
-pub mod Searching
+pub mod Along
 pub mod Computing

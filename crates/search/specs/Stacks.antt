@@ -1,13 +1,14 @@
 -- What the stack that a caller lends shows of a search.
-use Rattle.std.specs.Prelude.{◌≡◌, ℕ, zero, suc, ◌+◌, ◌-◌, ◌≤◌, min, List, [], ◌∷◌, ◌++◌, Option, length, map, replicate, reverse, take, slice_get, slice_index_or, slice_set}
+use Rattle.std.specs.Prelude.{◌≡◌, refl, ℕ, zero, suc, ◌+◌, ◌-◌, ◌≤◌, min, List, [], ◌∷◌, ◌++◌, Option, length, map, replicate, reverse, take, slice_get, slice_index_or, slice_set}
 use mathlib.Core.List.{Memᴰ}
+use Rattle.std.proofs.Props.{props}
 use Rattle.search.specs.declared.mark.Mark.{Mark}
 use Rattle.search.specs.declared.mark.Mark.TheVariants.{Fresh, Open, Closed, Spoilt}
 use Rattle.search.specs.declared.node.Node.{Node}
 use Rattle.search.specs.declared.stack.Stack.{Stack}
 use Rattle.search.specs.declared.stack.Visit.{Visit}
 use Rattle.search.specs.Search.{Search}
-use Rattle.search.specs.Laws.{Once}
+use Rattle.search.specs.Laws.{Once, none, one_more}
 
 -- the index 0 and the low mark 0
 abbrev pub unvisited : Visit
@@ -66,3 +67,13 @@ pub record Room (f : ℕ → Mark) (m : Stack) : Type 0 where
 pub record Stacked (s : Search) : Type 0 where
   pub each_open : (x : ℕ) → Memᴰ x s.stack → s.mark x ≡ Open
   pub once : Once s.stack
+
+Once-prop : {l : List ℕ} → IsProp (Once l)
+Once-prop none none = refl
+Once-prop (one_more n o) (one_more m p) = λ i. one_more (λ h. (absurd {A = n h ≡ m h} (n h)) i) (Once-prop o p i)
+
+-- two proofs of Stacked are the same, so that a ghost field may say it
+pub Stacked-prop : (s : Search) → IsProp (Stacked s)
+Stacked-prop s p q =
+    let open_prop : IsProp ((x : ℕ) → Memᴰ x s.stack → s.mark x ≡ Open) = Prim.hlevel props in
+    λ i. record { each_open = open_prop p.each_open q.each_open i; once = Once-prop p.once q.once i }

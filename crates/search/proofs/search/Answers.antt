@@ -1,9 +1,10 @@
 -- What is left to show of `search`.
-use Rattle.std.proofs.Common.{ap, ◌∙◌, subst, arith}
+use Rattle.std.proofs.Common.{ap, ◌∙◌, subst, arith, rules}
 use mathlib.Core.Path.{subst⁻¹}
 use Rattle.search.specs.declared.stack.Stack.{Stack}
 use Rattle.search.specs.Search.{Search, begin, Ends}
-use Rattle.search.specs.Laws.{none}
+use Rattle.search.specs.Laws.{none, Lawful}
+use Rattle.search.specs.Running.{RunsComputeIt}
 use Rattle.search.specs.Stacks.{shown, Room, Stacked}
 use Rattle.search.proofs.Counting.{count_most}
 use Rattle.search.proofs.Shown.{shown_blank}
@@ -12,8 +13,8 @@ use Rattle.search.proofs.Actions.{actions_once}
 use Rattle.search.proofs.Computing.{ends_run}
 use Rattle.search.proofs.search.Goals as goal
 
-pub visit-requires : goal.visit-requires
-visit-requires g c =
+pub invariant_of-searching : goal.invariant_of-searching
+invariant_of-searching g c =
     let f = g.W.Walk.marks c.args.walk.now in
     let E = c.new.ensures in
     let h = count_most f 32 in
@@ -30,19 +31,18 @@ returns g c =
     let D = T.deeds (T.fixed w) in
     let s = begin (T.marks w) in
     let v = c.args.root.value in
-    let t = shown (T.marks c.visit.new.walk) c.visit.new.stack in
-    let b = T.state c.visit.new.walk in
+    let t = shown (T.marks c.visit.new.self.walk.now) c.visit.new.self.stack.now in
+    let b = T.state c.visit.new.self.walk.now in
     let r = c.visit.result in
     let V = subst (λ (z : Search). Ends A D z (T.state w) v t b r) (ap (shown (T.marks w)) c.new.ensures ∙ shown_blank (T.marks w)) c.visit.ensures.does in
+    let L : Lawful A D s (T.state w) v t b r =
     record {
-      fixed = c.visit.ensures.fixed;
-      does = V;
-      laws = record {
-        finishes = success_finishes A D s (T.state w) v t b r V;
-        follows = action_follows A D s (T.state w) v t b r V;
-        reached = fault_reached A D s (T.state w) v t b r;
-        once = actions_once A D s (T.state w) v t b r V;
-        cycles = popped_cycle A D s (T.state w) v t b r V;
-      };
-      computes = λ P C. ends_run A P C s (T.state w) v t b r V;
+      finishes = success_finishes A D s (T.state w) v t b r V;
+      follows = action_follows A D s (T.state w) v t b r V;
+      reached = fault_reached A D s (T.state w) v t b r;
+      once = actions_once A D s (T.state w) v t b r V;
+      cycles = popped_cycle A D s (T.state w) v t b r V;
     }
+    in
+    let C : RunsComputeIt A D s (T.state w) v t b r = λ P C. ends_run A P C s (T.state w) v t b r V in
+    record { fixed = search rules; does = search (rules, V); laws = search (rules, L); computes = search (rules, C) }

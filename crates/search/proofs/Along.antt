@@ -5,50 +5,41 @@ use mathlib.Core.List.Memᴰ
 use mathlib.Core.List.{Memᴰ}
 use Rattle.search.specs.declared.mark.Mark.{Mark}
 use Rattle.search.specs.declared.mark.Mark.TheVariants.{Fresh, Open, Closed, Spoilt}
-use Rattle.search.specs.declared.stack.Stack.{Stack}
 use Rattle.search.specs.Graph.{item}
 use Rattle.search.specs.Search.{Search, enter, lower, down_to, close, Deeds, Finishes, Visits, passes_open, passes_closed, stays, pops, Upto, start, further, Faults, here, inside}
 use Rattle.search.specs.Stacks.{count, Stacked}
 use Rattle.search.proofs.Preserving.{upto_preserve, StaysMet, met_preserved}
 use Rattle.search.proofs.Counting.{count_le, count_opened}
-use Rattle.search.proofs.Stacking.{enter_stacked, StillStacked, upto_stacked}
+use Rattle.search.proofs.Stacking.{enter_stacked, upto_stacked}
 
 -- v was new and has been entered, and its first i arrows are searched: from k0, s0 and a0 the search has come to k, t and b
 pub record Along {K S F : Type 0} (arrows : K → ℕ → List ℕ) (deeds : K → Deeds S F) (k0 : K) (s0 : Search) (a0 : S) (v i : ℕ) (k : K) (t : Search) (b : S) : Type 0 where
   pub fresh : s0.mark v ≡ Fresh
-  pub stacked : Stacked s0
   pub fixed : k ≡ k0
   pub upto : Upto (arrows k0) (deeds k0) (enter s0 v) a0 v i t b
 
 module _ {K S F : Type 0} {arrows : K → ℕ → List ℕ} {deeds : K → Deeds S F} {k0 : K} {s0 : Search} {a0 : S} {v : ℕ} where
-  pub along_starts : {k : K} {t : Search} {b : S} → s0.mark v ≡ Fresh → Stacked s0 → k ≡ k0 → b ≡ a0 → t ≡ enter s0 v → Along arrows deeds k0 s0 a0 v 0 k t b
-  along_starts {b = b} f K p q e = record {
+  pub along_starts : {k : K} {t : Search} {b : S} → s0.mark v ≡ Fresh → k ≡ k0 → b ≡ a0 → t ≡ enter s0 v → Along arrows deeds k0 s0 a0 v 0 k t b
+  along_starts {b = b} f p q e = record {
     fresh = f;
-    stacked = K;
     fixed = p;
     upto = subst⁻¹ (λ (s : Search). Upto (arrows k0) (deeds k0) (enter s0 v) a0 v 0 s b) e (subst⁻¹ (λ (a : S). Upto (arrows k0) (deeds k0) (enter s0 v) a0 v 0 (enter s0 v) a) q start);
   }
 
   module _ {i : ℕ} {k : K} {t : Search} {b : S} (A : Along arrows deeds k0 s0 a0 v i k t b) where
     -- one arrow more: the search came to u, and its low mark heeded
-    pub along_further : {k1 : K} {w : ℕ} {u u1 : Search} {c : S} → item (arrows k v) i ≡ Some w → Visits (arrows k) (deeds k) t b w u c → k1 ≡ k → u1 ≡ lower u v w → Along arrows deeds k0 s0 a0 v (i + 1) k1 u1 c
-    along_further {w = w} {u = u} {c = c} q V p e = record {
+    pub along_further : {k1 : K} {w : ℕ} {u u1 : Search} {c c1 : S} → item (arrows k v) i ≡ Some w → Visits (arrows k) (deeds k) t b w u c → k1 ≡ k → u1 ≡ lower u v w → c1 ≡ c → Along arrows deeds k0 s0 a0 v (i + 1) k1 u1 c1
+    along_further {w = w} {u = u} {u1 = u1} {c = c} q V p e r = record {
       fresh = A.fresh;
-      stacked = A.stacked;
       fixed = p ∙ A.fixed;
       upto =
-          subst⁻¹ (λ (z : Search). Upto (arrows k0) (deeds k0) (enter s0 v) a0 v (i + 1) z c) e
-          (further A.upto (subst (λ (k : K). item (arrows k v) i ≡ Some w) A.fixed q) (subst (λ (k : K). Visits (arrows k) (deeds k) t b w u c) A.fixed V));
+          subst⁻¹ (λ (y : S). Upto (arrows k0) (deeds k0) (enter s0 v) a0 v (i + 1) u1 y) r
+          (subst⁻¹ (λ (z : Search). Upto (arrows k0) (deeds k0) (enter s0 v) a0 v (i + 1) z c) e
+          (further A.upto (subst (λ (k : K). item (arrows k v) i ≡ Some w) A.fixed q) (subst (λ (k : K). Visits (arrows k) (deeds k) t b w u c) A.fixed V)));
     }
 
-    along_still : StillStacked (enter s0 v) t
-    along_still = upto_stacked A.upto (enter_stacked A.stacked A.fresh)
-
-    pub along_stacked : Stacked t
-    along_stacked = along_still.stacked
-
-    pub along_within : Memᴰ v t.stack
-    along_within = let G = along_still.grown in subst⁻¹ (λ l. Memᴰ v l) G.is (Memᴰ.append_right G.top (Memᴰ.head refl))
+    pub along_within : Stacked s0 → Memᴰ v t.stack
+    along_within K = let G = (upto_stacked A.upto (enter_stacked K A.fresh)).grown in subst⁻¹ (λ l. Memᴰ v l) G.is (Memᴰ.append_right G.top (Memᴰ.head refl))
 
     -- fewer nodes are new than before v was entered
     pub along_fewer : v < 32 → count t.mark 32 < count s0.mark 32
@@ -88,7 +79,3 @@ passes Fresh e n m = absurd (n refl)
 passes Open e n m = passes_open (sym e)
 passes Closed e n m = passes_closed (sym e)
 passes Spoilt e n m = absurd (m refl)
-
--- what holds of a walk and a stack holds of those that they are
-pub at_exit : {W : Type 0} (P : W → Stack → Type 0) {w w1 : W} {m m1 : Stack} → w1 ≡ w → m1 ≡ m → P w m → P w1 m1
-at_exit P {w} {w1} {m} p q h = subst⁻¹ (λ (y : Stack). P w1 y) q (subst⁻¹ (λ x. P x m) p h)
