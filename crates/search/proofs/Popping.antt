@@ -67,8 +67,6 @@ pub record Popping {S F : Type 0} (D : Deeds S F) (v : ℕ) (s0 : Search) (a0 : 
   pub rest : (b : S) → Finishes D s0 v (down_to v s.stack) a b → Finishes D s0 v (down_to v s0.stack) a0 b
 
 module _ {S F : Type 0} {D : Deeds S F} {v : ℕ} {s0 : Search} {a0 : S} where
-  pub popping_starts : Memᴰ v s0.stack → Popping D v s0 a0 s0 a0
-  popping_starts m = record { within = m; same = refl; rest = λ b k. k }
 
   popping_more : {s : Search} {a : S} {x : ℕ} {r : List ℕ} {b : S} → Popping D v s0 a0 s a → s.stack ≡ x ∷ r → ¬ (x ≡ v) → D.closes s0 a x v b → Popping D v s0 a0 (off_stack s x r) b
   popping_more {s} {a} {x} {r} {b} P e n d = record {
@@ -91,9 +89,9 @@ module _ (f : ℕ → Mark) (m : Stack) where
   pop_some {v} h e = elim (subst (λ l. Memᴰ v (downward l)) (none_newest m.nodes.items e) h) [ ]
 
   -- the newest node is x, and is open
-  module _ (x : Node) (q : newest m ≡ Some x) (K : Stacked (shown f m)) where
+  module _ (x : Node) (q : newest m ≡ Some x) (ok : Stacked (shown f m)) where
     pub pop_open : f x.value ≡ Open
-    pop_open = K.each_open x.value (subst⁻¹ (λ l. Memᴰ x.value l) (newest_first m x q) (Memᴰ.head refl))
+    pop_open = ok.each_open x.value (subst⁻¹ (λ l. Memᴰ x.value l) (newest_first m x q) (Memᴰ.head refl))
 
     -- it is taken off and closed, and m1 and g are left
     module _ (m1 : Stack) (e : m1 ≡ popped m) (g : ℕ → Mark) (M : (y : ℕ) → g y ≡ put f x.value Closed y) where
@@ -101,7 +99,7 @@ module _ (f : ℕ → Mark) (m : Stack) where
       shown_is = ap (shown g) e ∙ shown_off f g m x.value M
 
       pub pop_stacked : Stacked (shown g m1)
-      pop_stacked = subst⁻¹ (λ (s : Search). Stacked s) shown_is (off_stacked (shown f m) x.value (downward (popped m).nodes.items) (newest_first m x q) K)
+      pop_stacked = subst⁻¹ (λ (s : Search). Stacked s) shown_is (off_stacked (shown f m) x.value (downward (popped m).nodes.items) (newest_first m x q) ok)
 
       pub pop_room : Room f m → Room g m1
       pop_room R = room_kept f g m m1 met fewer (ap (λ (n : Stack). n.next) e) R
@@ -112,12 +110,15 @@ module _ (f : ℕ → Mark) (m : Stack) where
           fewer : length m1.nodes.items ≤ length m.nodes.items
           fewer = let h = ap (λ (n : Stack). length n.nodes.items) e ∙ length-take (length m.nodes.items - 1) m.nodes.items in omega (arith, h)
 
-      -- so it goes on while v is on the stack, or ends with v
-      module _ {S F : Type 0} {D : Deeds S F} {v : ℕ} {s0 : Search} {a0 a b : S} (P : Popping D v s0 a0 (shown f m) a) (d : D.closes s0 a x.value v b) where
-        pub pop_more : ¬ (x.value ≡ v) → Popping D v s0 a0 (shown g m1) b
-        pop_more n = subst⁻¹ (λ z. Popping D v s0 a0 z b) shown_is (popping_more P (newest_first m x q) n d)
+      -- so it goes on, or ends with v
+      module _ {K S F : Type 0} (deeds : K → Deeds S F) {k0 k : K} {v : ℕ} {s0 : Search} {a0 a b : S} (P : Popping (deeds k0) v s0 a0 (shown f m) a) (r : k ≡ k0) (d : (s : Search) → (deeds k).closes s a x.value v b) where
+        closes_it : (deeds k0).closes s0 a x.value v b
+        closes_it = subst (λ z. (deeds z).closes s0 a x.value v b) r (d s0)
 
-        pub pop_last : x.value ≡ v → Finishes D s0 v (down_to v s0.stack) a0 b × (shown g m1 ≡ close s0 v)
+        pub pop_more : ¬ (x.value ≡ v) → Popping (deeds k0) v s0 a0 (shown g m1) b
+        pop_more n = subst⁻¹ (λ z. Popping (deeds k0) v s0 a0 z b) shown_is (popping_more P (newest_first m x q) n closes_it)
+
+        pub pop_last : x.value ≡ v → Finishes (deeds k0) s0 v (down_to v s0.stack) a0 b × (shown g m1 ≡ close s0 v)
         pop_last n =
-            let E = popping_ends P (newest_first m x q ∙ ap (λ y. y ∷ downward (popped m).nodes.items) n) (subst (λ y. D.closes s0 a y v b) n d) in
+            let E = popping_ends P (newest_first m x q ∙ ap (λ y. y ∷ downward (popped m).nodes.items) n) (subst (λ y. (deeds k0).closes s0 a y v b) n closes_it) in
             (E.0, shown_is ∙ ap (λ y. off_stack (shown f m) y (downward (popped m).nodes.items)) n ∙ E.1)

@@ -34,7 +34,7 @@ set_put f l d v a h x = elim (ℕ_discrete x v) [
 ]
 
 -- the last node of a list is the newest
-pub downward_last : (l : List Node) (v : Node) → downward (l ++ v ∷ []) ≡ v.value ∷ downward l
+downward_last : (l : List Node) (v : Node) → downward (l ++ v ∷ []) ≡ v.value ∷ downward l
 downward_last l v = ap (λ (k : List ℕ). reverse k) (map-append (λ (x : Node). x.value) l (v ∷ [])) ∙ reverse-append (map (λ (x : Node). x.value) l) (v.value ∷ [])
 
 pub shown_enter : (f g : ℕ → Mark) (m : Stack) (v : Node) → ((x : ℕ) → g x ≡ put f v.value Open x) → length m.visits ≡ 32 → shown g (pushed m v) ≡ enter (shown f m) v.value

@@ -1,7 +1,6 @@
 -- What is left to show of `settle`.
-use Rattle.std.proofs.Common.{◌≡◌, sym, ◌∙◌, subst, eqb-true}
+use Rattle.std.proofs.Common.{sym, ◌∙◌, eqb-true}
 use Rattle.std.proofs.lemmas.Bool.{eqb-false}
-use Rattle.search.specs.Stacks.{shown}
 use Rattle.search.proofs.Popping.{pop_some, pop_open, pop_stacked, pop_room, pop_more, pop_last}
 use Rattle.search.proofs.searching.Searching.settle.Goals as goal
 
@@ -21,35 +20,29 @@ invariant_of-self g c =
 pub loop-node-preserved : goal.loop-node-preserved
 loop-node-preserved g c =
     let T = g.W.Walk in
-    let s0 = c.args.self.now in
     let s = c.loop-node.self in
     let I = c.loop-node.invariant in
-    let f = T.marks s.walk.now in
     let x = c.in-Some.node in
     let e = sym c.pop.ensures.value ∙ c.in-Some.is in
-    let o = pop_open f s.stack.now x e s.stacked in
-    let d = subst (λ z. (T.deeds z).closes (shown (T.marks s0.walk.now) s0.stack.now) (T.state s.walk.now) x.value c.args.root.value (T.state c.close.new.self)) I.fixed (c.close.ensures.does o _) in
-    let n : ¬ (x.value ≡ c.args.root.value) = eqb-false x.value c.args.root.value (sym c.eq.ensures ∙ c.if-eq.false) in
+    let o = pop_open (T.marks s.walk.now) s.stack.now x e s.stacked in
+    let n = eqb-false x.value c.args.root.value (sym c.eq.ensures ∙ c.if-eq.false) in
     record {
       walk = I.walk;
       stack = I.stack;
-      popping = pop_more f s.stack.now x e s.stacked c.pop.new.self c.pop.ensures.after (T.marks c.close.new.self) (c.close.ensures.marks o) I.popping d n;
+      popping = pop_more (T.marks s.walk.now) s.stack.now x e s.stacked c.pop.new.self c.pop.ensures.after (T.marks c.close.new.self) (c.close.ensures.marks o) T.deeds I.popping I.fixed (c.close.ensures.does o) n;
       fixed = c.close.ensures.fixed o ∙ I.fixed;
     }
 
 pub returns-then-eq : goal.returns-then-eq
 returns-then-eq g c =
     let T = g.W.Walk in
-    let s0 = c.args.self.now in
     let s = c.loop-node.self in
     let I = c.loop-node.invariant in
-    let f = T.marks s.walk.now in
     let x = c.in-Some.node in
     let e = sym c.pop.ensures.value ∙ c.in-Some.is in
-    let o = pop_open f s.stack.now x e s.stacked in
-    let d = subst (λ z. (T.deeds z).closes (shown (T.marks s0.walk.now) s0.stack.now) (T.state s.walk.now) x.value c.args.root.value (T.state c.close.new.self)) I.fixed (c.close.ensures.does o _) in
-    let q : x.value ≡ c.args.root.value = eqb-true x.value c.args.root.value (sym c.eq.ensures ∙ c.if-eq.true) in
-    let E = pop_last f s.stack.now x e s.stacked c.pop.new.self c.pop.ensures.after (T.marks c.close.new.self) (c.close.ensures.marks o) I.popping d q in
+    let o = pop_open (T.marks s.walk.now) s.stack.now x e s.stacked in
+    let n = eqb-true x.value c.args.root.value (sym c.eq.ensures ∙ c.if-eq.true) in
+    let E = pop_last (T.marks s.walk.now) s.stack.now x e s.stacked c.pop.new.self c.pop.ensures.after (T.marks c.close.new.self) (c.close.ensures.marks o) T.deeds I.popping I.fixed (c.close.ensures.does o) n in
     record { walk = I.walk; stack = I.stack; fixed = c.close.ensures.fixed o ∙ I.fixed; does = E.0; after = E.1 }
 
 pub invariant_of-self-in_default : goal.invariant_of-self-in_default
