@@ -1,11 +1,11 @@
 -- What the code of a visit does is a search.
 use Rattle.std.proofs.Common.{◌≡◌, ℕ, ◌+◌, ◌<◌, List, Some, None, sym, refl, ap, ◌∙◌, subst, arith}
+use Rattle.std.specs.List.{slice_get}
 use mathlib.Core.Path.{subst⁻¹}
 use mathlib.Core.List.Memᴰ
 use mathlib.Core.List.{Memᴰ}
 use Rattle.search.specs.declared.mark.Mark.{Mark}
 use Rattle.search.specs.declared.mark.Mark.TheVariants.{Fresh, Open, Closed, Spoilt}
-use Rattle.search.specs.Graph.{item}
 use Rattle.search.specs.Search.{Search, enter, lower, down_to, close, Deeds, Finishes, Visits, passes_open, passes_closed, stays, pops, Upto, start, further, Faults, here, inside}
 use Rattle.search.specs.Stacks.{count, Stacked}
 use Rattle.search.proofs.Preserving.{upto_preserve, StaysMet, met_preserved}
@@ -28,14 +28,14 @@ module _ {K S F : Type 0} {arrows : K → ℕ → List ℕ} {deeds : K → Deeds
 
   module _ {i : ℕ} {k : K} {t : Search} {b : S} (A : Along arrows deeds k0 s0 a0 v i k t b) where
     -- one arrow more: the search came to u, and its low mark heeded
-    pub along_further : {k1 : K} {w : ℕ} {u u1 : Search} {c c1 : S} → item (arrows k v) i ≡ Some w → Visits (arrows k) (deeds k) t b w u c → k1 ≡ k → u1 ≡ lower u v w → c1 ≡ c → Along arrows deeds k0 s0 a0 v (i + 1) k1 u1 c1
+    pub along_further : {k1 : K} {w : ℕ} {u u1 : Search} {c c1 : S} → slice_get (arrows k v) i ≡ Some w → Visits (arrows k) (deeds k) t b w u c → k1 ≡ k → u1 ≡ lower u v w → c1 ≡ c → Along arrows deeds k0 s0 a0 v (i + 1) k1 u1 c1
     along_further {w = w} {u = u} {u1 = u1} {c = c} q V p e r = record {
       fresh = A.fresh;
       fixed = p ∙ A.fixed;
       upto =
           subst⁻¹ (λ (y : S). Upto (arrows k0) (deeds k0) (enter s0 v) a0 v (i + 1) u1 y) r
           (subst⁻¹ (λ (z : Search). Upto (arrows k0) (deeds k0) (enter s0 v) a0 v (i + 1) z c) e
-          (further A.upto (subst (λ (k : K). item (arrows k v) i ≡ Some w) A.fixed q) (subst (λ (k : K). Visits (arrows k) (deeds k) t b w u c) A.fixed V)));
+          (further A.upto (subst (λ (k : K). slice_get (arrows k v) i ≡ Some w) A.fixed q) (subst (λ (k : K). Visits (arrows k) (deeds k) t b w u c) A.fixed V)));
     }
 
     pub along_within : Stacked s0 → Memᴰ v t.stack
@@ -48,14 +48,14 @@ module _ {K S F : Type 0} {arrows : K → ℕ → List ℕ} {deeds : K → Deeds
         let k = count_le (enter s0 v).mark t.mark 32 (upto_preserve StaysMet met_preserved A.upto) in
         omega arith
 
-    pub along_inside : {w : ℕ} {t1 : Search} {c : S} {n : ℕ} {e : F} → item (arrows k v) i ≡ Some w → Faults (arrows k) (deeds k) t b w t1 c n e → Faults (arrows k0) (deeds k0) s0 a0 v t1 c n e
+    pub along_inside : {w : ℕ} {t1 : Search} {c : S} {n : ℕ} {e : F} → slice_get (arrows k v) i ≡ Some w → Faults (arrows k) (deeds k) t b w t1 c n e → Faults (arrows k0) (deeds k0) s0 a0 v t1 c n e
     along_inside {w} {t1} {c} {n} {e} q h =
-        inside A.fresh A.upto (subst (λ (k : K). item (arrows k v) i ≡ Some w) A.fixed q) (subst (λ (k : K). Faults (arrows k) (deeds k) t b w t1 c n e) A.fixed h)
+        inside A.fresh A.upto (subst (λ (k : K). slice_get (arrows k v) i ≡ Some w) A.fixed q) (subst (λ (k : K). Faults (arrows k) (deeds k) t b w t1 c n e) A.fixed h)
 
     -- no arrow is left, and the action follows, with the marks as they are
-    module _ (q : item (arrows k v) i ≡ None) {t1 : Search} (g : t1 ≡ t) where
-      none_left : item (arrows k0 v) i ≡ None
-      none_left = subst (λ (k : K). item (arrows k v) i ≡ None) A.fixed q
+    module _ (q : slice_get (arrows k v) i ≡ None) {t1 : Search} (g : t1 ≡ t) where
+      none_left : slice_get (arrows k0 v) i ≡ None
+      none_left = subst (λ (k : K). slice_get (arrows k v) i ≡ None) A.fixed q
 
       pub along_fails : {c : S} {e : F} → (deeds k).fails t b v c e → Faults (arrows k0) (deeds k0) s0 a0 v t1 c v e
       along_fails {c} {e} h =

@@ -1,11 +1,12 @@
 -- Small lemmas on marks, lists and arrows.
 use Rattle.std.proofs.Common.{◌≡◌, ℕ, zero, suc, ◌<◌, ◌≤◌, ◌⊎◌, List, [], ◌∷◌, ◌++◌, Some, None, refl, ◌∙◌, inl, inr, arith}
+use Rattle.std.specs.List.{slice_get}
 use mathlib.Core.List.Memᴰ
 use mathlib.Core.List.{Memᴰ}
 use native.Mathlib.Decide.{ℕ_discrete}
 use Rattle.search.specs.declared.mark.Mark.{Mark}
 use Rattle.search.specs.declared.mark.Mark.TheVariants.{Fresh, Open, Closed, Spoilt}
-use Rattle.search.specs.Graph.{item, Reaches, itself, through}
+use Rattle.search.specs.Graph.{Reaches, itself, through}
 use Rattle.search.specs.Search.{put, heed, down_to, under, put_all}
 
 pub put_here : {A : Type 0} (f : ℕ → A) (v : ℕ) (a : A) → put f v a v ≡ a
@@ -42,11 +43,11 @@ pub reaches_trans : {arrows : ℕ → List ℕ} {a b c : ℕ} → Reaches arrows
 reaches_trans itself q = q
 reaches_trans (through h p) q = through h (reaches_trans p q)
 
-pub item_before : (l : List ℕ) (i j w : ℕ) → item l i ≡ None → item l j ≡ Some w → j < i
-item_before [] i j w p q = let z : ◌≡◌ {A = ℕ} 0 1 = cc in omega arith
-item_before (x ∷ xs) zero j w p q = let z : ◌≡◌ {A = ℕ} 0 1 = cc in omega arith
-item_before (x ∷ xs) (suc i) zero w p q = omega arith
-item_before (x ∷ xs) (suc i) (suc j) w p q = let h : j < i = item_before xs i j w p q in omega arith
+pub slice_get_before : (l : List ℕ) (i j w : ℕ) → slice_get l i ≡ None → slice_get l j ≡ Some w → j < i
+slice_get_before [] i j w p q = let z : ◌≡◌ {A = ℕ} 0 1 = cc in omega arith
+slice_get_before (x ∷ xs) zero j w p q = let z : ◌≡◌ {A = ℕ} 0 1 = cc in omega arith
+slice_get_before (x ∷ xs) (suc i) zero w p q = omega arith
+slice_get_before (x ∷ xs) (suc i) (suc j) w p q = let h : j < i = slice_get_before xs i j w p q in omega arith
 
 pub down_to_is : (v : ℕ) (l r : List ℕ) → ((x : ℕ) → Memᴰ x l → ¬ (x ≡ v)) → down_to v (l ++ (v ∷ r)) ≡ l ++ (v ∷ [])
 unfolding down_to

@@ -1,16 +1,16 @@
 -- Where the deeds are functions, a search comes to what its run computes.
 use Rattle.std.proofs.Common.{◌≡◌, ℕ, zero, suc, ◌+◌, ◌≤◌, Bool, true, false, eqb, List, [], ◌∷◌, drop, Some, None, Ok, Err, Result, refl, ap, ◌∙◌, arith, eq-eqb, ne_eqb}
+use Rattle.std.specs.List.{slice_get}
 use Rattle.search.specs.declared.mark.Mark.TheVariants.{Fresh, Open, Closed, Spoilt}
-use Rattle.search.specs.Graph.{item}
 use Rattle.search.specs.Search.{Search, enter, lower, close, Deeds, Finishes, no_more, then_more, Visits, passes_open, passes_closed, stays, pops, Upto, start, further, Faults, hands_on, here, inside, Ends}
 use Rattle.search.specs.Running.{Moves, Outcome, finished, faulted, and_then, scan, shut_all, leave, go_on, run, ComputedBy, IsComputed}
 
-drop_some : (l : List ℕ) (i w : ℕ) → item l i ≡ Some w → drop i l ≡ w ∷ drop (i + 1) l
+drop_some : (l : List ℕ) (i w : ℕ) → slice_get l i ≡ Some w → drop i l ≡ w ∷ drop (i + 1) l
 drop_some [] i w e = let z : ◌≡◌ {A = ℕ} 0 1 = cc in absurd (omega arith)
 drop_some (x ∷ l) zero w e = let q : x ≡ w = cc in ap (λ y. y ∷ l) q
 drop_some (x ∷ l) (suc i) w e = drop_some l i w e ∙ ap (λ n. w ∷ drop n (x ∷ l)) (let q : suc (i + 1) ≡ suc i + 1 = omega arith in q)
 
-drop_none : (l : List ℕ) (i : ℕ) → item l i ≡ None → drop i l ≡ []
+drop_none : (l : List ℕ) (i : ℕ) → slice_get l i ≡ None → drop i l ≡ []
 drop_none [] zero e = refl
 drop_none [] (suc i) e = refl
 drop_none (x ∷ l) zero e = let z : ◌≡◌ {A = ℕ} 0 1 = cc in absurd (omega arith)

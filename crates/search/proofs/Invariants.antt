@@ -1,8 +1,9 @@
 -- What stands while a search goes on.
 use Rattle.std.proofs.Common.{◌≡◌, ℕ, ◌<◌, ◌≤◌, ◌⊎◌, List, ◌∷◌, ◌++◌, Some}
+use Rattle.std.specs.List.{slice_get}
 use mathlib.Core.List.{Memᴰ}
 use Rattle.search.specs.declared.mark.Mark.TheVariants.{Fresh, Open, Closed}
-use Rattle.search.specs.Graph.{item, Arrow, Reaches}
+use Rattle.search.specs.Graph.{Arrow, Reaches}
 use Rattle.search.specs.Search.{Search}
 
 -- the search of the arrow to y is over, and the low mark of x heeds y
@@ -77,4 +78,4 @@ module _ (arrows : ℕ → List ℕ) where
     pub back : (x : ℕ) → t.mark x ≡ Open → Reaches arrows x v
     pub lows : (x : ℕ) → s.mark x ≡ Fresh → t.mark x ≡ Open → t.low v ≤ t.low x
     pub searched : (x y : ℕ) → s.mark x ≡ Fresh → ¬ (x ≡ v) → t.mark x ≡ Open → Arrow arrows x y → Settled t x y
-    pub seen : (j y : ℕ) → item (arrows v) j ≡ Some y → j < i → Settled t v y
+    pub seen : (j y : ℕ) → slice_get (arrows v) j ≡ Some y → j < i → Settled t v y

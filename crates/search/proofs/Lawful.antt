@@ -1,8 +1,9 @@
 -- The laws of a search that begins at rest, but for that of its actions.
 use Rattle.std.proofs.Common.{◌≡◌, ℕ, List, [], ◌∷◌, None, Ok, Err, Result, sym, refl, ◌∙◌, subst, inl, inr}
+use Rattle.std.specs.List.{slice_get}
 use mathlib.Core.List.{Memᴰ}
 use Rattle.search.specs.declared.mark.Mark.TheVariants.{Open, Closed}
-use Rattle.search.specs.Graph.{item, Reaches, itself, through}
+use Rattle.search.specs.Graph.{Reaches, itself, through}
 use Rattle.search.specs.Search.{Search, down_to, close, Deeds, Finishes, no_more, then_more, Visits, passes_open, passes_closed, stays, pops, Upto, start, further, Faults, hands_on, here, inside, Ends}
 use Rattle.search.specs.Laws.{FinishedLeadToFinished, AtRest, FinishedWithAllItReaches, ArrowsLeadToFinishedOrIntoTheCycle, PoppedAreOneCycle, acting_after_arrows, closing_one_cycle, SuccessFinishesAllThatTheRootReaches, EachActionFollowsItsArrows, AFaultIsReachedFromTheStack, NodesPoppedTogetherAreOneCycle}
 use Rattle.search.proofs.Basics.{open_not_fresh, closed_not_open, fresh?}
@@ -58,7 +59,7 @@ module _ {arrows : ℕ → List ℕ} where
       root : t.mark v ≡ Closed
       root = elim V.met [ inl o ↦ absurd (none_open v o) | inr c ↦ c ]
 
-  pub at_action : {s : Search} {v i : ℕ} {t : Search} → Scanning arrows s v i t → item (arrows v) i ≡ None → AtAction arrows t v
+  pub at_action : {s : Search} {v i : ℕ} {t : Search} → Scanning arrows s v i t → slice_get (arrows v) i ≡ None → AtAction arrows t v
   at_action C e = record {
     sound = C.sound;
     is_open = C.is_open;
@@ -66,7 +67,7 @@ module _ {arrows : ℕ → List ℕ} where
     arrows_led = λ w a. elim (all_seen C e w a) [ inl c ↦ inl c | inr p ↦ inr (C.sound.stacked w p.0, C.back w p.0) ];
   }
 
-  pub pops_one_cycle : {s : Search} {v i : ℕ} {t : Search} → Ready arrows s v → Scanning arrows s v i t → item (arrows v) i ≡ None → t.low v ≡ t.index v → PoppedAreOneCycle arrows t v
+  pub pops_one_cycle : {s : Search} {v i : ℕ} {t : Search} → Ready arrows s v → Scanning arrows s v i t → slice_get (arrows v) i ≡ None → t.low v ≡ t.index v → PoppedAreOneCycle arrows t v
   pops_one_cycle {s} {v} {i} {t} R C e r x = (
     (λ m. let h = batch_new R C e r x m in (C.from x h.0 (open_not_fresh h.1), C.back x h.1)),
     (λ p. elim (after R C e r x) [

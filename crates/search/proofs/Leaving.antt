@@ -1,20 +1,21 @@
 -- What stands when a node is left.
 use Rattle.std.proofs.Common.{◌≡◌, ℕ, ◌<◌, ◌⊎◌, List, [], ◌∷◌, ◌++◌, None, sym, ap, ◌∙◌, subst, inl, inr, append_assoc, arith}
+use Rattle.std.specs.List.{slice_get}
 use mathlib.Core.List.Memᴰ
 use mathlib.Core.List.{Memᴰ}
 use native.Mathlib.Decide.{ℕ_discrete}
 use Rattle.search.specs.declared.mark.Mark.TheVariants.{Fresh, Open, Closed}
-use Rattle.search.specs.Graph.{item, Arrow}
+use Rattle.search.specs.Graph.{Arrow}
 use Rattle.search.specs.Search.{Search, down_to, under, close}
-use Rattle.search.proofs.Basics.{reaches_trans, item_before, down_to_is, under_is, put_all_cases, open_not_fresh, closed_not_open, fresh?}
+use Rattle.search.proofs.Basics.{reaches_trans, slice_get_before, down_to_is, under_is, put_all_cases, open_not_fresh, closed_not_open, fresh?}
 use Rattle.search.proofs.Invariants.{Settled, Kept, Sound, Ready, Visited, Scanning}
 
 module _ {arrows : ℕ → List ℕ} where
   -- each arrow of v is settled
-  pub all_seen : {s : Search} {v i : ℕ} {t : Search} → Scanning arrows s v i t → item (arrows v) i ≡ None → (y : ℕ) → Arrow arrows v y → Settled t v y
-  all_seen {v = v} {i = i} C e y a = C.seen a.place y a.is (item_before (arrows v) i a.place y e a.is)
+  pub all_seen : {s : Search} {v i : ℕ} {t : Search} → Scanning arrows s v i t → slice_get (arrows v) i ≡ None → (y : ℕ) → Arrow arrows v y → Settled t v y
+  all_seen {v = v} {i = i} C e y a = C.seen a.place y a.is (slice_get_before (arrows v) i a.place y e a.is)
 
-  module _ {s : Search} {v i : ℕ} {t : Search} (R : Ready arrows s v) (C : Scanning arrows s v i t) (e : item (arrows v) i ≡ None) where
+  module _ {s : Search} {v i : ℕ} {t : Search} (R : Ready arrows s v) (C : Scanning arrows s v i t) (e : slice_get (arrows v) i ≡ None) where
     -- an open node is new, or it was open and lies under v
     was : (x : ℕ) → t.mark x ≡ Open → (s.mark x ≡ Fresh) ⊎ ((s.mark x ≡ Open) × (t.index x < s.next))
     was x o = elim (fresh? (s.mark x)) [

@@ -67,7 +67,6 @@ pub record Popping {S F : Type 0} (D : Deeds S F) (v : ℕ) (s0 : Search) (a0 : 
   pub rest : (b : S) → Finishes D s0 v (down_to v s.stack) a b → Finishes D s0 v (down_to v s0.stack) a0 b
 
 module _ {S F : Type 0} {D : Deeds S F} {v : ℕ} {s0 : Search} {a0 : S} where
-
   popping_more : {s : Search} {a : S} {x : ℕ} {r : List ℕ} {b : S} → Popping D v s0 a0 s a → s.stack ≡ x ∷ r → ¬ (x ≡ v) → D.closes s0 a x v b → Popping D v s0 a0 (off_stack s x r) b
   popping_more {s} {a} {x} {r} {b} P e n d = record {
     within = elim (Memᴰ.cases_cons (subst (λ l. Memᴰ v l) e P.within)) [ inl q ↦ absurd (n (sym q)) | inr q ↦ q ];

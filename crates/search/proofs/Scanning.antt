@@ -1,9 +1,10 @@
 -- What the search of one more arrow keeps.
 use Rattle.std.proofs.Common.{◌≡◌, ℕ, ◌+◌, ◌<◌, ◌≤◌, ◌⊎◌, List, ◌∷◌, ◌++◌, Some, Option, sym, refl, ap, ◌∙◌, subst, inl, inr, append_assoc, arith}
+use Rattle.std.specs.List.{slice_get}
 use mathlib.Core.List.Memᴰ
 use native.Mathlib.Decide.{ℕ_discrete}
 use Rattle.search.specs.declared.mark.Mark.TheVariants.{Fresh, Open, Closed}
-use Rattle.search.specs.Graph.{item, Arrow, Reaches, itself, through}
+use Rattle.search.specs.Graph.{Arrow, Reaches, itself, through}
 use Rattle.search.specs.Search.{Search, heed, lower}
 use Rattle.search.proofs.Basics.{put_at, put_else, heed_low, heed_open, heed_either, reaches_trans, open_not_fresh, closed_not_fresh, fresh?}
 use Rattle.search.proofs.Invariants.{Settled, Kept, Lowest, Sound, Ready, Visited, Scanning}
@@ -57,13 +58,13 @@ module _ (t : Search) (v w : ℕ) where
     }
 
 module _ {arrows : ℕ → List ℕ} where
-  pub readies : {s : Search} {v i : ℕ} {t : Search} {w : ℕ} → Scanning arrows s v i t → item (arrows v) i ≡ Some w → Ready arrows t w
+  pub readies : {s : Search} {v i : ℕ} {t : Search} {w : ℕ} → Scanning arrows s v i t → slice_get (arrows v) i ≡ Some w → Ready arrows t w
   readies {i = i} C e = record {
     sound = C.sound;
     back = λ x o. reaches_trans (C.back x o) (through (record { place = i; is = e }) itself);
   }
 
-  module _ {s : Search} {v i : ℕ} {t : Search} {w : ℕ} {t1 : Search} (C : Scanning arrows s v i t) (e : item (arrows v) i ≡ Some w) (V : Visited arrows t w t1) where
+  module _ {s : Search} {v i : ℕ} {t : Search} {w : ℕ} {t1 : Search} (C : Scanning arrows s v i t) (e : slice_get (arrows v) i ≡ Some w) (V : Visited arrows t w t1) where
     -- a node open after the visit was Fresh or open before it
     was : (x : ℕ) → t1.mark x ≡ Open → (t.mark x ≡ Fresh) ⊎ (t.mark x ≡ Open)
     was x o = elim (fresh? (t.mark x)) [ yes f ↦ inl f | no n ↦ inr (sym (V.kept.marks x n) ∙ o) ]
@@ -105,9 +106,9 @@ module _ {arrows : ℕ → List ℕ} where
     scans_here (inl q) = inr (q, (let b = lower_at t1 v w v refl in let c = heed_open (t1.mark w) (t1.low v) (t1.low w) q in let h = V.sound.low_index w q in omega arith))
     scans_here (inr q) = inl q
 
-    scans_seen : (j y : ℕ) → item (arrows v) j ≡ Some y → j < i + 1 → Settled (lower t1 v w) v y
+    scans_seen : (j y : ℕ) → slice_get (arrows v) j ≡ Some y → j < i + 1 → Settled (lower t1 v w) v y
     scans_seen j y q l = elim (ℕ_discrete j i) [
-      | yes r ↦ (let h : w ≡ y = some_same (sym e ∙ ap (item (arrows v)) (sym r) ∙ q) in subst (λ z. Settled (lower t1 v w) v z) h (scans_here V.met))
+      | yes r ↦ (let h : w ≡ y = some_same (sym e ∙ ap (slice_get (arrows v)) (sym r) ∙ q) in subst (λ z. Settled (lower t1 v w) v z) h (scans_here V.met))
       | no n ↦ lower_settled t1 v w v y (kept_settled t t1 V.kept v y (open_not_fresh C.is_open) (C.seen j y q (omega arith)))
     ]
 

@@ -1,8 +1,7 @@
 -- The component search, as a relation between what stood before it and what stands after it.
-use Rattle.std.specs.Prelude.{◌≡◌, ℕ, ◌+◌, min, cond, List, [], ◌∷◌, Some, None, Ok, Err, Result, ◌==◌}
+use Rattle.std.specs.Prelude.{◌≡◌, ℕ, ◌+◌, min, cond, List, [], ◌∷◌, Some, None, Ok, Err, Result, ◌==◌, slice_get}
 use Rattle.search.specs.declared.mark.Mark.{Mark}
 use Rattle.search.specs.declared.mark.Mark.TheVariants.{Fresh, Open, Closed, Spoilt}
-use Rattle.search.specs.Graph.{item}
 
 -- what a search knows of the nodes: their marks, indices and low marks, the nodes on the stack, the newest first, and the next index
 pub record Search : Type 0 where
@@ -80,14 +79,14 @@ module _ (arrows : ℕ → List ℕ) {S F : Type 0} (D : Deeds S F) where
       -- a new node is entered, its arrows are searched and its action is done; with a smaller low mark it stays on the stack
       stays : {s : Search} {a : S} {v i : ℕ} {t : Search} {b c : S}
           → s.mark v ≡ Fresh
-          → Upto (enter s v) a v i t b → item (arrows v) i ≡ None
+          → Upto (enter s v) a v i t b → slice_get (arrows v) i ≡ None
           → D.acts t b v c
           → ¬ (t.low v ≡ t.index v)
           → Visits s a v t c
       -- where its low mark is its index, the stack is popped through it
       pops : {s : Search} {a : S} {v i : ℕ} {t : Search} {b c d : S}
           → s.mark v ≡ Fresh
-          → Upto (enter s v) a v i t b → item (arrows v) i ≡ None
+          → Upto (enter s v) a v i t b → slice_get (arrows v) i ≡ None
           → D.acts t b v c
           → t.low v ≡ t.index v
           → Finishes D t v (down_to v t.stack) c d
@@ -97,7 +96,7 @@ module _ (arrows : ℕ → List ℕ) {S F : Type 0} (D : Deeds S F) where
     pub data Upto : Search → S → ℕ → ℕ → Search → S → Type 0 where
       start : {s : Search} {a : S} {v : ℕ} → Upto s a v 0 s a
       further : {s : Search} {a : S} {v i : ℕ} {t : Search} {b : S} {w : ℕ} {u : Search} {c : S}
-          → Upto s a v i t b → item (arrows v) i ≡ Some w
+          → Upto s a v i t b → slice_get (arrows v) i ≡ Some w
           → Visits t b w u c
           → Upto s a v (i + 1) (lower u v w) c
 
@@ -108,13 +107,13 @@ module _ (arrows : ℕ → List ℕ) {S F : Type 0} (D : Deeds S F) where
     -- the action at v ends in a fault
     here : {s : Search} {a : S} {v i : ℕ} {t : Search} {b c : S} {e : F}
         → s.mark v ≡ Fresh
-        → Upto (enter s v) a v i t b → item (arrows v) i ≡ None
+        → Upto (enter s v) a v i t b → slice_get (arrows v) i ≡ None
         → D.fails t b v c e
         → Faults s a v t c v e
     -- the search of an arrow of v ends in a fault
     inside : {s : Search} {a : S} {v i : ℕ} {t : Search} {b : S} {w : ℕ} {u : Search} {c : S} {n : ℕ} {e : F}
         → s.mark v ≡ Fresh
-        → Upto (enter s v) a v i t b → item (arrows v) i ≡ Some w
+        → Upto (enter s v) a v i t b → slice_get (arrows v) i ≡ Some w
         → Faults t b w u c n e
         → Faults s a v u c n e
 

@@ -1,10 +1,9 @@
 // What a search asks of a graph and of what is done at its nodes.
-ghost use Rattle.std.specs.Prelude.{◌≡◌, ℕ, ◌+◌, ◌^◌, ◌<◌, List, Some, MatchResult, ◌≢◌};
+ghost use Rattle.std.specs.Prelude.{◌≡◌, ℕ, ◌+◌, ◌^◌, ◌<◌, List, Some, MatchResult, ◌≢◌, slice_get};
 ghost use Rattle.std.specs.Option.{option_map};
 ghost use Rattle.search.specs.declared.mark.Mark.{Mark};
 ghost use Rattle.search.specs.declared.mark.Mark.TheVariants.{Fresh, Open, Closed, Spoilt};
 ghost use Rattle.search.specs.declared.node.Node.{Node};
-ghost use Rattle.search.specs.Graph.{item};
 ghost use Rattle.search.specs.Search.{Search, put, Deeds};
 
 use crate::mark::Mark;
@@ -33,7 +32,7 @@ pub trait Walk {
 
     /// Where the arrow at the place `i` of the node leads.
     fn arrow(&self, node: Node, i: usize) -> Option<Node>
-        ensures is { option_map (λ (x : Node). x.value) result ≡ item (arrows (fixed self.now) node.value) i }
+        ensures is { option_map (λ (x : Node). x.value) result ≡ slice_get (arrows (fixed self.now) node.value) i }
         ensures few { (x : Node) → result ≡ Some x → i + 1 < 2 ^ 64 };
 
     /// The mark of the node, or the fault that it carries.

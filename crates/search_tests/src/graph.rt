@@ -1,10 +1,9 @@
 // A fixed graph: a cycle of four nodes with a smaller one inside it, and a cycle of two that it leads to.
-ghost use Rattle.std.specs.Prelude.{◌≡◌, ℕ, ◌+◌, ◌^◌, ◌<◌, Some, slice_index_or};
+ghost use Rattle.std.specs.Prelude.{◌≡◌, ℕ, ◌+◌, ◌^◌, ◌<◌, Some, slice_index_or, slice_get};
 ghost use Rattle.std.specs.Option.{option_map};
 ghost use Rattle.search.specs.declared.mark.Mark.{Mark};
 ghost use Rattle.search.specs.declared.mark.Mark.TheVariants.{Fresh};
 ghost use Rattle.search.specs.declared.node.Node.{Node};
-ghost use Rattle.search.specs.Graph.{item};
 ghost use Rattle.search.specs.Search.{put};
 ghost use Rattle.search_tests.specs.Walks.{first_arrow, second_arrow, cycles};
 
@@ -35,7 +34,7 @@ fn second_arrow(node: usize) -> Option<usize>
 }
 
 pub fn arrow(node: Node, i: usize) -> Option<Node>
-    ensures is { option_map (λ (x : Node). x.value) result ≡ item (cycles node.value) i }
+    ensures is { option_map (λ (x : Node). x.value) result ≡ slice_get (cycles node.value) i }
     ensures few { (x : Node) → result ≡ Some x → i + 1 < 2 ^ 64 }
 {
     let end = match i {
