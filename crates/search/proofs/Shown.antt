@@ -27,7 +27,7 @@ unfolding put
 put_same f v x = grind arith
 
 -- what f shows of a list, once an element is set
-pub set_put : {A B : Type 0} (f : A → B) (l : List A) (d : A) (v : ℕ) (a : A) → v < length l → (x : ℕ) → f (get_or (set l v a) x d) ≡ put (λ y. f (get_or l y d)) v (f a) x
+set_put : {A B : Type 0} (f : A → B) (l : List A) (d : A) (v : ℕ) (a : A) → v < length l → (x : ℕ) → f (get_or (set l v a) x d) ≡ put (λ y. f (get_or l y d)) v (f a) x
 set_put f l d v a h x = elim (ℕ_discrete x v) [
   | yes e ↦ ap (λ y. f (get_or (set l v a) y d)) e ∙ ap f (get_or-set_same l v a d h) ∙ sym (put_at (λ y. f (get_or l y d)) v (f a) x e)
   | no n ↦ ap f (get_or-set_other l v x a d n) ∙ sym (put_else (λ y. f (get_or l y d)) v (f a) x n)
@@ -87,11 +87,12 @@ off_stack s x r = record { mark = put s.mark x Closed; index = s.index; low = s.
 pub shown_off : (f g : ℕ → Mark) (m : Stack) (x : ℕ) → ((y : ℕ) → g y ≡ put f x Closed y) → shown g (popped m) ≡ off_stack (shown f m) x (downward (popped m).nodes.items)
 shown_off f g m x M = search_path (shown g (popped m)) (off_stack (shown f m) x (downward (popped m).nodes.items)) M (λ y. refl) (λ y. refl) refl refl
 
-blank_at : (n x : ℕ) → get_or (replicate n unvisited) x unvisited ≡ unvisited
-blank_at zero x = refl
-blank_at (suc n) zero = refl
-blank_at (suc n) (suc x) = blank_at n x
+-- where each element is the default, each read gives it
+pub get_or-replicate_same : {A : Type 0} (a : A) (n x : ℕ) → get_or (replicate n a) x a ≡ a
+get_or-replicate_same a zero x = refl
+get_or-replicate_same a (suc n) zero = refl
+get_or-replicate_same a (suc n) (suc x) = get_or-replicate_same a n x
 
 -- a blank stack shows a search that begins
 pub shown_blank : (f : ℕ → Mark) → shown f blank ≡ begin f
-shown_blank f = search_path (shown f blank) (begin f) (λ x. refl) (λ x. ap (λ (v : Visit). v.index) (blank_at 32 x)) (λ x. ap (λ (v : Visit). v.low) (blank_at 32 x)) refl refl
+shown_blank f = search_path (shown f blank) (begin f) (λ x. refl) (λ x. ap (λ (v : Visit). v.index) (get_or-replicate_same unvisited 32 x)) (λ x. ap (λ (v : Visit). v.low) (get_or-replicate_same unvisited 32 x)) refl refl

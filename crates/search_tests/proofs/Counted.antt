@@ -1,11 +1,12 @@
 -- A search that counts at each action has counted once each node that its root reaches.
-use Rattle.std.proofs.Common.{◌≡◌, ℕ, zero, suc, ◌+◌, ◌%◌, ◌<◌, List, length, get_or, set, replicate, sym, refl, ap, ◌∙◌, subst, inl, inr, arith, length-set, get_or-set_other, get_or-set_same}
+use Rattle.std.proofs.Common.{◌≡◌, ℕ, ◌+◌, ◌%◌, ◌<◌, List, length, get_or, set, replicate, sym, refl, ap, ◌∙◌, subst, inl, inr, arith, length-set, get_or-set_other, get_or-set_same}
 use mathlib.Core.List.Memᴰ
 use mathlib.Core.List.{Memᴰ}
 use Rattle.search.specs.declared.mark.Mark.TheVariants.{Fresh}
 use Rattle.search.specs.Search.{Search, begin}
 use Rattle.search.specs.Laws.{Once, one_more, Acts, nothing, action, finish, Acted, AtRest, FinishedWithAllItReaches}
 use Rattle.search.proofs.Basics.{closed_not_fresh, open_not_fresh}
+use Rattle.search.proofs.Shown.{get_or-replicate_same}
 use Rattle.search_tests.specs.declared.counting.Stage.TheVariants.{New}
 use Rattle.search_tests.specs.Walks.{cycles, counting, marking, EachReachedNodeIsCountedOnce}
 
@@ -25,25 +26,18 @@ module _ {F : Type 0} where
   ]
   counts_once (finish {a = a} s d p) o x m h z = counts_once p o x m (let q = ap length d in omega arith) (ap (λ y. get_or y x 0) d ∙ z)
 
-zeros : (n x : ℕ) → ◌≡◌ {A = ℕ} (get_or (replicate n 0) x 0) 0
-zeros zero x = refl
-zeros (suc n) zero = refl
-zeros (suc n) (suc x) = zeros n x
-
-news : (n x : ℕ) → marking (get_or (replicate n New) x New) ≡ Fresh
-news zero x = refl
-news (suc n) zero = refl
-news (suc n) (suc x) = news n x
+fresh_at : (x : ℕ) → marking (get_or (replicate 32 New) x New) ≡ Fresh
+fresh_at x = ap marking (get_or-replicate_same New 32 x)
 
 -- a search that begins where all nodes are new
 abbrev pub beginning : Search
 beginning = begin (λ x. marking (get_or (replicate 32 New) x New))
 
 pub begins_at_rest : AtRest cycles beginning
-begins_at_rest = record { empty = refl; none_open = λ x o. open_not_fresh o (news 32 x); finished = λ x y c a. absurd (closed_not_fresh c (news 32 x)) }
+begins_at_rest = record { empty = refl; none_open = λ x o. open_not_fresh o (fresh_at x); finished = λ x y c a. absurd (closed_not_fresh c (fresh_at x)) }
 
 pub all_counted : {F : Type 0} (v : ℕ) (t : Search) (b : List ℕ) → FinishedWithAllItReaches cycles beginning v t → (nodes : List ℕ) × Acted (counting {F = F}) beginning (replicate 32 0) t b nodes → EachReachedNodeIsCountedOnce v b
 all_counted v t b R A x h = (
-  (λ p. counts_once A.1.chain A.1.once x ((A.1.new x).1 (news 32 x, closed_not_fresh (R.reached x p))) h (zeros 32 x)),
-  (λ n. counts_other A.1.chain x (λ m. n (R.only x (news 32 x) ((A.1.new x).0 m).1)) ∙ zeros 32 x),
+  (λ p. counts_once A.1.chain A.1.once x ((A.1.new x).1 (fresh_at x, closed_not_fresh (R.reached x p))) h (get_or-replicate_same 0 32 x)),
+  (λ n. counts_other A.1.chain x (λ m. n (R.only x (fresh_at x) ((A.1.new x).0 m).1)) ∙ get_or-replicate_same 0 32 x),
 )

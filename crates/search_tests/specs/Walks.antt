@@ -1,5 +1,5 @@
 -- A fixed graph, and what two walks do on it.
-use Rattle.std.specs.Prelude.{◌≡◌, ℕ, ◌+◌, ◌%◌, ◌<◌, cond, List, [], ◌∷◌, Some, None, Option, Result, ◌==◌, slice_index, slice_index_or, slice_set}
+use Rattle.std.specs.Prelude.{◌≡◌, ℕ, ◌+◌, ◌%◌, ◌<◌, cond, List, [], ◌∷◌, Result, ◌==◌, slice_index, slice_index_or, slice_set}
 use Rattle.search.specs.Graph.{Reaches}
 use Rattle.search.specs.Search.{Search, begin, Deeds, Ends}
 use Rattle.search.specs.declared.mark.Mark.{Mark}
@@ -8,21 +8,9 @@ use Rattle.search_tests.specs.declared.counting.Stage.{Stage}
 use Rattle.search_tests.specs.declared.counting.Stage.TheVariants.{New, Going, Counted}
 use Rattle.search_tests.specs.declared.failing.Failed.{Failed}
 
--- the first arrow of each node, and the second
-abbrev pub first_arrow : ℕ → Option ℕ
-first_arrow v = cond (v == 0) (Some 1) (cond (v == 1) (Some 2) (cond (v == 2) (Some 1) (cond (v == 3) (Some 0) (cond (v == 4) (Some 5) (cond (v == 5) (Some 4) None)))))
-
-abbrev pub second_arrow : ℕ → Option ℕ
-second_arrow v = cond (v == 2) (Some 3) (cond (v == 3) (Some 4) None)
-
-abbrev pub both : Option ℕ → Option ℕ → List ℕ
-both None b = []
-both (Some x) None = x ∷ []
-both (Some x) (Some y) = x ∷ (y ∷ [])
-
 -- 0 → 1 → 2 → 3 → 0 with 2 → 1 inside it, and 3 → 4 ⇄ 5
 abbrev pub cycles : ℕ → List ℕ
-cycles v = both (first_arrow v) (second_arrow v)
+cycles v = cond (v == 0) (1 ∷ []) (cond (v == 1) (2 ∷ []) (cond (v == 2) (1 ∷ (3 ∷ [])) (cond (v == 3) (0 ∷ (4 ∷ [])) (cond (v == 4) (5 ∷ []) (cond (v == 5) (4 ∷ []) [])))))
 
 -- the mark of a stage
 abbrev pub marking : Stage → Mark

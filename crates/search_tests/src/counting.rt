@@ -1,15 +1,14 @@
 // A walk whose action counts its node.
 ghost use Rattle.std.specs.Prelude.{◌≡◌, ℕ, List, slice_index_or};
-ghost use Rattle.search.specs.Search.{put};
 ghost use Rattle.search_tests.specs.Walks.{cycles, counting, marking};
 ghost use Rattle.search_tests.specs.declared.counting.Stage.TheVariants.{New};
 
 use crate::graph::arrow;
+use crate::marks::{look, mark};
 use search::{Mark, Node, Walk};
 use std::convert::Infallible;
 
 /// How far a count has come with a node.
-#[repr(u8)]
 #[derive(Clone, Copy, PartialEq)]
 pub enum Stage {
     New,
@@ -23,20 +22,17 @@ pub struct Counting {
     pub counts: [u8; 32],
 }
 
-fn look(stages: &[Stage; 32], node: Node) -> Mark
-    ensures { result ≡ marking (slice_index_or stages.now node.value New) }
-{
-    match stages[node.number()] {
-        Stage::New => Mark::Fresh,
-        Stage::Going => Mark::Open,
-        Stage::Counted => Mark::Closed,
-    }
-}
+/// What a stage stands for.
+impl From<Stage> for Mark {
+    ghost from_gives = { λ stage mark. mark ≡ marking stage };
 
-fn mark(stages: &mut [Stage; 32], node: Node, stage: Stage)
-    ensures { (x : ℕ) → marking (slice_index_or stages.new x New) ≡ put (λ y. marking (slice_index_or stages.old y New)) node.value (marking stage) x }
-{
-    stages[node.number()] = stage;
+    fn from(stage: Stage) -> Mark {
+        match stage {
+            Stage::New => Mark::Fresh,
+            Stage::Going => Mark::Open,
+            Stage::Counted => Mark::Closed,
+        }
+    }
 }
 
 impl Walk for Counting {

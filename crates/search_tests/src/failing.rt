@@ -3,7 +3,8 @@ ghost use Rattle.std.specs.Prelude.{ℕ, slice_index_or};
 ghost use Rattle.search.specs.declared.mark.Mark.TheVariants.{Fresh};
 ghost use Rattle.search_tests.specs.Walks.{cycles, failing};
 
-use crate::graph::{arrow, look, mark};
+use crate::graph::arrow;
+use crate::marks::{look, mark};
 use search::{Mark, Node, Walk};
 
 /// The node whose action failed.

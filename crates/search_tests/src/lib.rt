@@ -1,5 +1,5 @@
 // Two walks over a fixed graph, searched.
-#![tactic(auto)]
+#![tactic(auto, unfolding(search::specs::Search::put))]
 
 ghost use Rattle.search_tests.specs.Example.{NestedCyclesArePoppedTogether};
 ghost use Rattle.search_tests.specs.Walks.{EachReachedNodeIsCountedOnce, FailsAt};
@@ -7,6 +7,7 @@ ghost use Rattle.search_tests.specs.Walks.{EachReachedNodeIsCountedOnce, FailsAt
 mod counting;
 mod failing;
 mod graph;
+mod marks;
 
 pub use counting::{Counting, Stage};
 pub use failing::{Failed, Failing};
