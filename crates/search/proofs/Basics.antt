@@ -1,5 +1,6 @@
 -- Small lemmas on marks, lists and arrows.
-use Rattle.std.proofs.Common.{◌≡◌, ℕ, zero, suc, ◌<◌, ◌≤◌, ◌⊎◌, List, [], ◌∷◌, ◌++◌, Some, None, refl, ◌∙◌, inl, inr, arith}
+use Rattle.std.proofs.Common.{◌≡◌, ℕ, ◌<◌, ◌≤◌, ◌⊎◌, List, [], ◌∷◌, ◌++◌, Some, None, refl, ◌∙◌, inl, inr, arith}
+use Rattle.std.proofs.lemmas.Option.{slice_get_cases, slice_get_within}
 use Rattle.std.specs.List.{slice_get}
 use mathlib.Core.List.Memᴰ
 use mathlib.Core.List.{Memᴰ}
@@ -44,10 +45,10 @@ reaches_trans itself q = q
 reaches_trans (through h p) q = through h (reaches_trans p q)
 
 pub slice_get_before : (l : List ℕ) (i j w : ℕ) → slice_get l i ≡ None → slice_get l j ≡ Some w → j < i
-slice_get_before [] i j w p q = let z : ◌≡◌ {A = ℕ} 0 1 = cc in omega arith
-slice_get_before (x ∷ xs) zero j w p q = let z : ◌≡◌ {A = ℕ} 0 1 = cc in omega arith
-slice_get_before (x ∷ xs) (suc i) zero w p q = omega arith
-slice_get_before (x ∷ xs) (suc i) (suc j) w p q = let h : j < i = slice_get_before xs i j w p q in omega arith
+slice_get_before l i j w p q = elim (slice_get_cases l i).1 [
+  | inl h ↦ (let z : ◌≡◌ {A = ℕ} 0 1 = (let k = h.2 in cc) in absurd (omega arith))
+  | inr h ↦ (let k = slice_get_within l j w q in omega (arith, h.0))
+]
 
 pub down_to_is : (v : ℕ) (l r : List ℕ) → ((x : ℕ) → Memᴰ x l → ¬ (x ≡ v)) → down_to v (l ++ (v ∷ r)) ≡ l ++ (v ∷ [])
 unfolding down_to

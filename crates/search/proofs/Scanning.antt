@@ -1,5 +1,6 @@
 -- What the search of one more arrow keeps.
-use Rattle.std.proofs.Common.{◌≡◌, ℕ, ◌+◌, ◌<◌, ◌≤◌, ◌⊎◌, List, ◌∷◌, ◌++◌, Some, Option, sym, refl, ap, ◌∙◌, subst, inl, inr, append_assoc, arith}
+use Rattle.std.proofs.Common.{◌≡◌, ℕ, ◌+◌, ◌<◌, ◌≤◌, ◌⊎◌, List, ◌∷◌, ◌++◌, Some, sym, refl, ap, ◌∙◌, subst, inl, inr, append_assoc, arith}
+use Rattle.std.proofs.lemmas.Option.{same_Some}
 use Rattle.std.specs.List.{slice_get}
 use mathlib.Core.List.Memᴰ
 use native.Mathlib.Decide.{ℕ_discrete}
@@ -8,9 +9,6 @@ use Rattle.search.specs.Graph.{Arrow, Reaches, itself, through}
 use Rattle.search.specs.Search.{Search, heed, lower}
 use Rattle.search.proofs.Basics.{put_at, put_else, heed_low, heed_open, heed_either, reaches_trans, open_not_fresh, closed_not_fresh, fresh?}
 use Rattle.search.proofs.Invariants.{Settled, Kept, Lowest, Sound, Ready, Visited, Scanning}
-
-some_same : {a b : ℕ} → ◌≡◌ {A = Option ℕ} (Some a) (Some b) → a ≡ b
-some_same q = cc
 
 -- what is settled for a node that is not Fresh stays so
 kept_settled : (t t1 : Search) → Kept t t1 → (x y : ℕ) → ¬ (t.mark x ≡ Fresh) → Settled t x y → Settled t1 x y
@@ -108,7 +106,7 @@ module _ {arrows : ℕ → List ℕ} where
 
     scans_seen : (j y : ℕ) → slice_get (arrows v) j ≡ Some y → j < i + 1 → Settled (lower t1 v w) v y
     scans_seen j y q l = elim (ℕ_discrete j i) [
-      | yes r ↦ (let h : w ≡ y = some_same (sym e ∙ ap (slice_get (arrows v)) (sym r) ∙ q) in subst (λ z. Settled (lower t1 v w) v z) h (scans_here V.met))
+      | yes r ↦ (let h : w ≡ y = same_Some w y (sym e ∙ ap (slice_get (arrows v)) (sym r) ∙ q) in subst (λ z. Settled (lower t1 v w) v z) h (scans_here V.met))
       | no n ↦ lower_settled t1 v w v y (kept_settled t t1 V.kept v y (open_not_fresh C.is_open) (C.seen j y q (omega arith)))
     ]
 

@@ -27,7 +27,7 @@ unfolding put
 put_same f v x = grind arith
 
 -- what f shows of a list, once an element is set
-set_put : {A B : Type 0} (f : A → B) (l : List A) (d : A) (v : ℕ) (a : A) → v < length l → (x : ℕ) → f (get_or (set l v a) x d) ≡ put (λ y. f (get_or l y d)) v (f a) x
+pub set_put : {A B : Type 0} (f : A → B) (l : List A) (d : A) (v : ℕ) (a : A) → v < length l → (x : ℕ) → f (get_or (set l v a) x d) ≡ put (λ y. f (get_or l y d)) v (f a) x
 set_put f l d v a h x = elim (ℕ_discrete x v) [
   | yes e ↦ ap (λ y. f (get_or (set l v a) y d)) e ∙ ap f (get_or-set_same l v a d h) ∙ sym (put_at (λ y. f (get_or l y d)) v (f a) x e)
   | no n ↦ ap f (get_or-set_other l v x a d n) ∙ sym (put_else (λ y. f (get_or l y d)) v (f a) x n)

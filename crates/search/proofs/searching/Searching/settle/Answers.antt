@@ -45,8 +45,5 @@ returns-then-eq g c =
     let E = pop_last (T.marks s.walk.now) s.stack.now x e s.stacked c.pop.new.self c.pop.ensures.after (T.marks c.close.new.self) (c.close.ensures.marks o) T.deeds I.popping I.fixed (c.close.ensures.does o) n in
     record { walk = I.walk; stack = I.stack; fixed = c.close.ensures.fixed o ∙ I.fixed; does = E.0; after = E.1 }
 
-pub invariant_of-self-in_default : goal.invariant_of-self-in_default
-invariant_of-self-in_default g c = absurd (pop_some (g.W.Walk.marks c.loop-node.self.walk.now) c.loop-node.self.stack.now c.loop-node.invariant.popping.within (sym c.pop.ensures.value ∙ c.in_default.is))
-
 pub returns-in_default : goal.returns-in_default
 returns-in_default g c = absurd (pop_some (g.W.Walk.marks c.loop-node.self.walk.now) c.loop-node.self.stack.now c.loop-node.invariant.popping.within (sym c.pop.ensures.value ∙ c.in_default.is))
