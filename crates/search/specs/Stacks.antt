@@ -68,11 +68,11 @@ pub record Stacked (s : Search) : Type 0 where
   pub each_open : (x : ℕ) → Memᴰ x s.stack → s.mark x ≡ Open
   pub once : Once s.stack
 
+-- each of these facts has at most one proof, so that a ghost field may say it
 Once-prop : {l : List ℕ} → IsProp (Once l)
 Once-prop none none = refl
 Once-prop (one_more n o) (one_more m p) = λ i. one_more (λ h. (absurd {A = n h ≡ m h} (n h)) i) (Once-prop o p i)
 
--- two proofs of Stacked are the same, so that a ghost field may say it
 pub Stacked-prop : (s : Search) → IsProp (Stacked s)
 Stacked-prop s p q =
     let open_prop : IsProp ((x : ℕ) → Memᴰ x s.stack → s.mark x ≡ Open) = Prim.hlevel props in

@@ -1,7 +1,7 @@
 // How far a search has come with a node.
 
 /// The mark of a node.
-#[derive(Clone, Copy, PartialEq)]
+#[derive(Clone, Copy, PartialEq, Eq)]
 pub enum Mark {
     /// New: not yet searched.
     Fresh,

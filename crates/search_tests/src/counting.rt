@@ -9,7 +9,7 @@ use search::{Mark, Node, Walk};
 use std::convert::Infallible;
 
 /// How far a count has come with a node.
-#[derive(Clone, Copy, PartialEq)]
+#[derive(Clone, Copy, PartialEq, Eq)]
 pub enum Stage {
     New,
     Going,
