@@ -2,3 +2,4 @@ pub mod Unique
 pub mod Seeing
 pub mod Fronts
 pub mod Steps
+pub mod Reading

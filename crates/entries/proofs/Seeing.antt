@@ -1,25 +1,16 @@
 -- A loop that looks for a name among those seen, and what it finds.
-use Rattle.std.proofs.Common.{◌≡◌, ℕ, ◌+◌, ◌<◌, ◌≤◌, Bool, true, false, cond, ◌||◌, leb, ◌⊎◌, List, map, length, get_or, drop, is_some, Some, None, sym, refl, ap, ◌∙◌, inl, inr, Bor}
+use Rattle.std.proofs.Common.{◌≡◌, ℕ, ◌<◌, ◌≤◌, Bool, true, false, cond, ◌||◌, leb, ◌⊎◌, List, [], ◌∷◌, map, length, is_some, Some, None, sym, refl, ap, ◌∙◌, inl, inr, Bor}
 use Rattle.std.specs.Str.{bytes_eq}
-use Rattle.std.proofs.lemmas.List.{drop_more, drop_all}
+use Rattle.std.specs.List.{list_any}
 use Rattle.std.proofs.lemmas.Bool.{le-leb, lt-leb, leb-true, leb-false, cond-true, cond-false, true≢false, false≢true}
 use Rattle.names.specs.Names.{Name, among}
 use Rattle.entries.specs.declared.stop.Stop.TheVariants.{TooMany, Repeated}
 use Rattle.entries.specs.Seen.{refusal}
 
-module _ (rs : List (Bor (List ℕ))) (x : Name) (b : Bool) (i : ℕ) where
-  module _ (d : Bor (List ℕ)) (l : i < length rs) (h : among (map (λ x. x.now) (drop i rs)) x ≡ b) where
-    at : (bytes_eq (get_or rs i d).now x || among (map (λ x. x.now) (drop (i + 1) rs)) x) ≡ b
-    at = sym (ap (λ q. among (map (λ x. x.now) q) x) (drop_more rs i d l)) ∙ h
-
-    pub found : bytes_eq (get_or rs i d).now x ≡ true → true ≡ b
-    found e = sym (ap (λ t. t || among (map (λ x. x.now) (drop (i + 1) rs)) x) e) ∙ at
-
-    pub goes_on : bytes_eq (get_or rs i d).now x ≡ false → among (map (λ x. x.now) (drop (i + 1) rs)) x ≡ b
-    goes_on e = sym (ap (λ t. t || among (map (λ x. x.now) (drop (i + 1) rs)) x) e) ∙ at
-
-  pub not_found : length rs ≤ i → among (map (λ x. x.now) (drop i rs)) x ≡ b → false ≡ b
-  not_found l h = sym (ap (λ q. among (map (λ x. x.now) q) x) (drop_all i rs l)) ∙ h
+-- a name is among those seen if the test finds it
+pub among_any : (rs : List (Bor (List ℕ))) (x : Name) → list_any (λ y. bytes_eq y.now x) rs ≡ among (map (λ y. y.now) rs) x
+among_any [] x = refl
+among_any (r ∷ rs) x = ap (λ t. bytes_eq r.now x || t) (among_any rs x)
 
 module _ (xs : List Name) (x : Name) where
   pub refuses_a_33rd : 32 ≤ length xs → Some TooMany ≡ refusal xs x

@@ -1,10 +1,10 @@
 // The names of the entries read so far.
-ghost use Rattle.std.specs.Prelude.{◌≡◌, [], ◌∷◌, ◌++◌, MatchResult};
+ghost use Rattle.std.specs.Prelude.{◌≡◌, [], ◌∷◌, ◌++◌, MatchResult, None};
 ghost use Rattle.names.specs.Names.{among};
-ghost use Rattle.entries.specs.Seen.{seen, refusal};
+ghost use Rattle.entries.specs.Seen.{seen, refusal, Refuses};
 
+use crate::fault::Fault;
 use crate::stop::Stop;
-use names::same_name;
 use std::alloc::{AllocError, Global};
 
 // How many entries there may be.
@@ -27,12 +27,20 @@ impl<'a> Seen<'a> {
     fn has(&self, name: &[u8]) -> bool
         ensures { result ≡ among (seen self.now) name.now }
     {
-        for x in self.names.iter() {
-            if same_name(x, name) {
-                return true;
-            }
+        self.names.contains(&name)
+    }
+
+    // Whether a well-formed entry of this name, which begins at this byte, may follow these.
+    pub fn check(&self, name: &[u8], byte: usize) -> Result<(), Fault>
+        ensures { MatchResult result (λ _. refusal (seen self.now) name.now ≡ None) (λ fault. Refuses (refusal (seen self.now) name.now) byte fault) }
+    {
+        if self.names.len() >= MOST {
+            return Err(Stop::TooMany.at(byte));
         }
-        false
+        if self.has(name) {
+            return Err(Stop::Repeated.at(byte));
+        }
+        Ok(())
     }
 
     // Why a well-formed entry of this name is refused behind these, if it is.

@@ -1,0 +1,82 @@
+-- Entries being read: what is known behind those read so far.
+use Rattle.std.proofs.Common.{◌≡◌, ℕ, ◌+◌, ◌-◌, ◌≤◌, Bool, true, false, cond, leb, List, [], ◌∷◌, ◌++◌, map, length, Some, None, Ok, sym, refl, ap, ◌∙◌, subst, arith, length-append}
+use lib.ListN.{length-map}
+use Rattle.std.proofs.lemmas.Bool.{leb-true, leb-false}
+use Rattle.std.proofs.lemmas.List.{map_push, nil_from_length}
+use Rattle.names.specs.Names.{Name, among}
+use Rattle.entries.specs.declared.stop.Stop.{Stop}
+use Rattle.entries.specs.declared.stop.Stop.TheVariants.{TooMany, Repeated}
+use Rattle.entries.specs.declared.placed.Placed.{Placed}
+use Rattle.entries.specs.Seen.{refusal}
+use Rattle.entries.specs.Entries.{Format, all_encoded, Front, Begins, Refused, Stops, Means}
+use Rattle.entries.specs.Reading.{all_contents, PlacedFrom, TakesFirst}
+use Rattle.entries.proofs.Unique.{parts, front_none, front_more}
+
+-- the entries in front of the rest, their names and their bytes
+pub record SoFar {R E : Type 0} (F : Format E) (contents : R → E) (s : List ℕ) (xs : List (Placed R)) (names : List Name) (rest : List ℕ) : Type 0 where
+  pub front : Front F s (all_contents contents xs) rest
+  pub are : names ≡ map F.name (all_contents contents xs)
+  pub placed : PlacedFrom F contents 0 xs
+
+module _ {R E : Type 0} (F : Format E) (contents : R → E) where
+  placed_more : (byte : ℕ) (xs : List (Placed R)) (x : Placed R) → PlacedFrom F contents byte xs → x.byte ≡ byte + length (all_encoded F (all_contents contents xs)) → PlacedFrom F contents byte (xs ++ (x ∷ []))
+  placed_more byte [] x h e = (omega arith, tt)
+  placed_more byte (y ∷ xs) x (b, h) e =
+      let n = length-append (F.encoded (contents y.entry)) (all_encoded F (all_contents contents xs)) in
+      (b, placed_more (byte + length (F.encoded (contents y.entry))) xs x h (omega arith))
+
+  pub at_first : (s : List ℕ) (xs : List (Placed R)) (names : List Name) → xs ≡ [] → names ≡ [] → SoFar F contents s xs names s
+  at_first s xs names e n = rw (e, n) (record { front = front_none F s; are = refl; placed = tt })
+
+  module _ (s : List ℕ) (xs : List (Placed R)) (names : List Name) (rest : List ℕ) (f : SoFar F contents s xs names rest) where
+    byte_is : length (all_encoded F (all_contents contents xs)) ≡ length s - length rest
+    byte_is = let n = length-append (all_encoded F (all_contents contents xs)) rest in let m = ap length f.front.all in omega arith
+
+    pub fits : length rest ≤ length s
+    fits = let n = length-append (all_encoded F (all_contents contents xs)) rest in let m = ap length f.front.all in omega arith
+
+    pub stops : (why : Stop) → Refused F (all_contents contents xs) rest why → Stops F s why (length s - length rest)
+    stops why r = record { before = all_contents contents xs; rest = rest; front = f.front; refused = r; is_byte = byte_is }
+
+    pub whole : length rest ≡ 0 → Means F s (Ok (all_contents contents xs))
+    whole n = subst (Front F s (all_contents contents xs)) (nil_from_length rest n) f.front
+
+    count : length names ≡ length (all_contents contents xs)
+    count = ap length f.are ∙ length-map (all_contents contents xs) F.name
+
+    module _ (x : R) (behind : List ℕ) (t : TakesFirst F rest (Some (contents x, behind))) (n : Name) (is : n ≡ F.name (contents x)) where
+      abbrev begins : Begins F rest
+      begins = record { entry = contents x; rest = behind; is = t.0; well = t.1 }
+
+      there : among names n ≡ among (map F.name (all_contents contents xs)) (F.name (contents x))
+      there = ap (λ l. among l n) f.are ∙ ap (among (map F.name (all_contents contents xs))) is
+
+      -- an entry that is refused
+      pub refused : (why : Stop) → refusal names n ≡ Some why → Stops F s why (length s - length rest)
+      refused why e = stops why (by (leb 32 (length names)) (among names n) refl refl e)
+        where
+          by : (t u : Bool) → leb 32 (length names) ≡ t → among names n ≡ u → cond t (Some TooMany) (cond u (Some Repeated) None) ≡ Some why → Refused F (all_contents contents xs) rest why
+          by true u p q h =
+              let is : TooMany ≡ why = cc in
+              let few = (parts F (all_contents contents xs) f.front.well).few in
+              subst (Refused F (all_contents contents xs) rest) is (omega (arith, leb-true 32 (length names) p, count), begins)
+          by false true p q h =
+              let is : Repeated ≡ why = cc in
+              subst (Refused F (all_contents contents xs) rest) is (omega (arith, leb-false 32 (length names) p, count), (begins, sym there ∙ q))
+          by false false p q h = cc
+
+      -- an entry that is read
+      pub one_more : (xs' : List (Placed R)) (names' : List Name) → refusal names n ≡ None → xs' ≡ xs ++ (record { byte = length s - length rest; entry = x } ∷ []) → names' ≡ names ++ (n ∷ []) → SoFar F contents s xs' names' behind
+      one_more xs' names' e p q = rw (p, q) (by (leb 32 (length names)) (among names n) refl refl e)
+        where
+          pushed : all_contents contents (xs ++ (record { byte = length s - length rest; entry = x } ∷ [])) ≡ all_contents contents xs ++ (contents x ∷ [])
+          pushed = map_push (λ z. contents z.entry) xs (record { byte = length s - length rest; entry = x })
+
+          by : (t u : Bool) → leb 32 (length names) ≡ t → among names n ≡ u → cond t (Some TooMany) (cond u (Some Repeated) None) ≡ None → SoFar F contents s (xs ++ (record { byte = length s - length rest; entry = x } ∷ [])) (names ++ (n ∷ [])) behind
+          by true u p q h = cc
+          by false true p q h = cc
+          by false false p q h = record {
+            front = subst (λ es. Front F s es behind) (sym pushed) (front_more F s (all_contents contents xs) rest f.front (contents x) behind t.0 t.1 (omega (arith, leb-false 32 (length names) p, count)) (sym there ∙ q));
+            are = ap (λ l. l ++ (n ∷ [])) f.are ∙ ap (λ l. map F.name (all_contents contents xs) ++ (l ∷ [])) is ∙ sym (map_push F.name (all_contents contents xs) (contents x)) ∙ ap (map F.name) (sym pushed);
+            placed = placed_more 0 xs (record { byte = length s - length rest; entry = x }) f.placed (omega (arith, byte_is));
+          }

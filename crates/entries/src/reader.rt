@@ -1,0 +1,29 @@
+// Reading entries, one behind another.
+ghost use Rattle.std.specs.Prelude.{◌≡◌};
+ghost use Rattle.entries.specs.Reading.{Reads};
+
+use crate::encoded::Encoded;
+use crate::fault::Fault;
+use crate::placed::Placed;
+use crate::seen::Seen;
+use crate::stop::Stop;
+use std::alloc::Global;
+
+// The entries that a byte string is, each with the byte at which it begins; or why and at which byte it is refused.
+pub fn read<'a, E: Encoded<'a>>(heap: Global, bytes: &'a [u8]) -> Result<Vec<Placed<E>>, Fault>
+    ensures { Reads E.format E.contents bytes.now result }
+{
+    let mut entries = Vec::new(heap);
+    let mut seen = Seen::new(heap);
+    let mut rest = bytes;
+    while !rest.is_empty() {
+        let byte = bytes.len() - rest.len();
+        let (entry, behind) = E::first(rest).ok_or(Stop::Malformed.at(byte))?;
+        let name = entry.name();
+        seen.check(name, byte)?;
+        seen.add(name)?;
+        entries.push(Placed { byte, entry })?;
+        rest = behind;
+    }
+    Ok(entries)
+}
