@@ -3,3 +3,4 @@ pub mod Seeing
 pub mod Fronts
 pub mod Steps
 pub mod Reading
+pub mod Errors

@@ -1,5 +1,5 @@
 -- Entries being read: what is known behind those read so far.
-use Rattle.std.proofs.Common.{◌≡◌, ℕ, ◌+◌, ◌-◌, ◌≤◌, Bool, true, false, cond, leb, List, [], ◌∷◌, ◌++◌, map, length, Some, None, Ok, sym, refl, ap, ◌∙◌, subst, arith, length-append}
+use Rattle.std.proofs.Common.{◌≡◌, ◌<◌, ℕ, zero, suc, get_or, take, ◌+◌, ◌-◌, ◌≤◌, Bool, true, false, cond, leb, List, [], ◌∷◌, ◌++◌, map, length, Some, None, Ok, sym, refl, ap, ◌∙◌, subst, arith, length-append}
 use lib.ListN.{length-map}
 use Rattle.std.proofs.lemmas.Bool.{leb-true, leb-false}
 use Rattle.std.proofs.lemmas.List.{map_push, nil_from_length}
@@ -24,6 +24,14 @@ module _ {R E : Type 0} (F : Format E) (contents : R → E) where
   placed_more byte (y ∷ xs) x (b, h) e =
       let n = length-append (F.encoded (contents y.entry)) (all_encoded F (all_contents contents xs)) in
       (b, placed_more (byte + length (F.encoded (contents y.entry))) xs x h (omega arith))
+
+  -- the byte of an entry is the size of those before it
+  pub byte_at : (byte : ℕ) (xs : List (Placed R)) → PlacedFrom F contents byte xs → (i : ℕ) (d : Placed R) → i < length xs → (get_or xs i d).byte ≡ byte + length (all_encoded F (all_contents contents (take i xs)))
+  byte_at byte [] h i d l = absurd (omega arith)
+  byte_at byte (x ∷ xs) (b, h) zero d l = omega arith
+  byte_at byte (x ∷ xs) (b, h) (suc i) d l =
+      let e = byte_at (byte + length (F.encoded (contents x.entry))) xs h i d (omega arith) in
+      omega (arith, length-append (F.encoded (contents x.entry)) (all_encoded F (all_contents contents (take i xs))))
 
   pub at_first : (s : List ℕ) (xs : List (Placed R)) (names : List Name) → xs ≡ [] → names ≡ [] → SoFar F contents s xs names s
   at_first s xs names e n = rw (e, n) (record { front = front_none F s; are = refl; placed = tt })

@@ -1,12 +1,10 @@
 -- What stands in front of a byte string.
-use Rattle.std.proofs.Common.{◌≡◌, ℕ, ◌+◌, ◌-◌, ◌*◌, ◌/◌, ◌%◌, ◌<◌, ◌≤◌, true, false, ◌⊎◌, List, ◌∷◌, ◌++◌, length, get_or, take, drop, Some, None, sym, refl, ap, ◌∙◌, inl, inr, arith, Bor}
-use Rattle.std.proofs.lemmas.List.{append_assoc, length-append, length-take-le, take-append-drop, take_at, take_rest, drop_at, drop_more}
-use Rattle.std.proofs.lemmas.Bool.{and_parts, and_from, leb-true, le-leb, both_ways}
+use Rattle.std.proofs.Common.{◌≡◌, ℕ, ◌+◌, ◌*◌, ◌/◌, ◌%◌, ◌≤◌, true, List, ◌∷◌, ◌++◌, length, take, drop, sym, refl, ap, ◌∙◌, arith}
+use Rattle.std.proofs.lemmas.List.{append_assoc, length-append, take_at, drop_at}
+use Rattle.std.proofs.lemmas.Bool.{and_parts, leb-true}
 use Rattle.names.specs.Words.{word}
-use Rattle.entries.specs.Entries.{Begins, LawfulFormat}
-use Rattle.record.specs.declared.value.Value.{Value}
+use Rattle.entries.specs.Entries.{LawfulFormat}
 use Rattle.list.specs.Lists.{Entry, kind, pattern_of, whole, encoded, good, list_format}
-use Rattle.list.specs.Reading.{ReadsContent, ReadAs}
 use Rattle.list.proofs.Contents.{contents_apart}
 
 -- what is known of a well-formed entry from the bytes that it begins
@@ -55,46 +53,3 @@ lawful = record {
         let q = parts e _ _ s h refl in
         let c = contents_apart d.content e.content r s (p.kind_is ∙ sym q.kind_is) p.is_whole q.is_whole (p.rest_is ∙ sym q.rest_is) in
         (same_entry d e (p.name_is ∙ sym q.name_is) c.0, c.1)
-
--- reading behind the first byte
-abbrev behind : List ℕ → List ℕ
-behind s = take (length s - 1) (drop 1 s)
-
-module _ (s : List ℕ) (l : 1 ≤ length s) (n : ℕ) (is_n : n ≡ get_or s 0 0 % 64) where
-  all_behind : behind s ≡ drop 1 s
-  all_behind = take_rest s 1
-
-  split : s ≡ get_or s 0 0 ∷ behind s
-  split = drop_more s 0 0 l ∙ ap (λ t. get_or s 0 0 ∷ t) (sym all_behind)
-
-  front : (b : Begins list_format s) → Parts b.entry (get_or s 0 0) (behind s) b.rest
-  front b = parts b.entry (get_or s 0 0) (behind s) b.rest b.well (b.is ∙ split)
-
-  pub too_long : (31 < n) ⊎ ((n ≤ 31) × (length (behind s) < n)) → ¬ Begins list_format s
-  too_long (inl h) b = omega (arith, (front b).short)
-  too_long (inr h) b = let k = h.1 in omega (arith, (front b).fits)
-
-  module _ (x y : List ℕ) (is_x : x ≡ take n (behind s)) (is_y : y ≡ drop n (behind s)) where
-    pub no_word : word x ≡ false → ¬ Begins list_format s
-    no_word h b =
-        let same : b.entry.name ≡ x = (front b).name_is ∙ ap (λ k. take k (behind s)) (sym is_n) ∙ sym is_x in
-        both_ways (word x) h (sym (ap word same) ∙ (front b).is_word)
-
-    pub no_content : ReadsContent (get_or s 0 0 / 64) y None → ¬ Begins list_format s
-    no_content h b = h b.entry.content b.rest (front b).kind_is (front b).is_whole ((front b).rest_is ∙ ap (λ k. drop k (behind s)) (sym is_n) ∙ sym is_y)
-
-    pub an_entry : (name : Bor (List ℕ)) (v : Value) (rest : Bor (List ℕ)) → x ≡ name.now → n ≤ 31 → n ≤ length (behind s) → word x ≡ true → ReadsContent (get_or s 0 0 / 64) y (Some (v, rest)) → (e : Entry) × ReadAs s e (record { name = name; value = v; rest = rest })
-    an_entry name v rest same short fits w (c, k, wh, is, v_is) =
-        let m : length x ≡ n = ap length is_x ∙ length-take-le n (behind s) fits in
-        let whole_name : x ++ y ≡ behind s = ap (λ z. z ++ y) is_x ∙ ap (λ z. take n (behind s) ++ z) is_y ∙ take-append-drop n (behind s) in
-        let head : kind c * 64 + length x ≡ get_or s 0 0 = omega arith in (
-          record { name = x; content = c },
-          record {
-            is = ap (λ z. z ∷ ((x ++ pattern_of c) ++ rest.now)) head
-                ∙ ap (λ z. get_or s 0 0 ∷ z) (append_assoc x (pattern_of c) rest.now ∙ ap (λ z. x ++ z) is ∙ whole_name)
-                ∙ sym split;
-            well = and_from _ _ w (and_from _ _ (le-leb (length x) 31 (omega arith)) wh);
-            name_is = sym same;
-            value_is = v_is;
-          },
-        )

@@ -1,75 +1,68 @@
--- A list being read: what is known behind the entries read so far.
-use Rattle.std.proofs.Common.{◌≡◌, ℕ, ◌-◌, ◌<◌, ◌≤◌, List, [], ◌∷◌, ◌++◌, map, length, Some, None, Ok, Err, vec_items, sym, ap, ◌∙◌, subst, arith, length-append}
-use Rattle.std.proofs.lemmas.List.{map_push, nil_from_length}
-use Rattle.names.specs.Names.{Name}
-use Rattle.entries.specs.declared.stop.Stop.{Stop}
-use Rattle.entries.specs.declared.stop.Stop.TheVariants.{Malformed}
-use Rattle.entries.specs.Seen.{refusal}
-use Rattle.entries.specs.Entries.{all_encoded, Front, Begins, MeansOnly}
-use Rattle.entries.proofs.Unique.{front_none, means_only}
+-- A module made of the entries that were read.
+use Rattle.std.proofs.Common.{◌≡◌, ℕ, ◌+◌, ◌<◌, ◌≤◌, List, [], ◌∷◌, ◌++◌, length, get_or, take, Ok, Err, vec_items, Vec, Result, refl, sym, ap, ◌∙◌, inl, inr, zero-add}
+use Rattle.std.specs.declared.alloc.Global.{Global}
+use Rattle.std.proofs.lemmas.List.{map_push, take_more, take_all}
+use Rattle.entries.specs.declared.fault.Fault.{Fault}
+use Rattle.entries.specs.declared.fault.Fault.TheVariants.{Stopped, OutOfMemory}
+use Rattle.entries.specs.declared.placed.Placed.{Placed}
+use Rattle.entries.specs.Reading.{Reads, PlacedFrom, all_contents}
+use Rattle.entries.proofs.Reading.{byte_at}
+use Rattle.entries.proofs.Unique.{means_only}
+use Rattle.record.specs.declared.denial.LoadFault.{LoadFault}
 use Rattle.record.specs.Modules.{well_formed}
 use Rattle.record.specs.Plain.{plain}
-use Rattle.list.specs.declared.entry.Entry as rust
+use Rattle.list.specs.declared.entry.Entry.{Entry as CodeEntry}
 use Rattle.list.specs.declared.module.SyntheticModule.{SyntheticModule}
-use Rattle.list.specs.Lists.{Entry, list_format, value, values_of, module_of, HasACellForEachEntry}
+use Rattle.list.specs.Lists.{Entry, list_format, value, values_of, module_of}
 use Rattle.list.specs.Modules.{with_entry}
-use Rattle.list.specs.Reading.{ReadsEntry, IsModule}
+use Rattle.list.specs.Reading.{entry, content, load_fault, ReadsExactly}
 use Rattle.list.proofs.Entries.{lawful}
 use Rattle.list.proofs.Modules.{module_push, module_entries, module_well_formed}
-use Rattle.entries.proofs.Steps.{byte_is, rest_fits, stops_malformed, stops_refused, goes_on}
 
--- the entries in front of the rest, which the module and the names seen are made of
-pub record SoFar (s : List ℕ) (m : SyntheticModule) (names : List Name) (rest : List ℕ) : Type 0 where
-  pub entries : List Entry
-  pub front : Front list_format s entries rest
-  pub declares : plain m.«record» ≡ module_of entries
-  pub values : vec_items m.values ≡ values_of entries
-  pub are : names ≡ map (λ e. e.name) entries
+-- the entries as the statements have them
+abbrev pub listed : List (Placed CodeEntry) → List Entry
+listed xs = all_contents entry xs
 
-pub at_first : (s : List ℕ) (m : SyntheticModule) (names : List Name) → plain m.«record» ≡ module_of [] → vec_items m.values ≡ [] → names ≡ [] → SoFar s m names s
-at_first s m names p q r = record { entries = []; front = front_none list_format s; declares = p; values = q; are = r }
+-- a module of these entries
+pub record MadeOf (xs : List (Placed CodeEntry)) (m : SyntheticModule) : Type 0 where
+  pub declares : plain m.«record» ≡ module_of (listed xs)
+  pub values : vec_items m.values ≡ values_of (listed xs)
 
-module _ (s : List ℕ) (m : SyntheticModule) (names : List Name) (rest : List ℕ) (f : SoFar s m names rest) where
-  pub fits : length rest ≤ length s
-  fits = rest_fits list_format lawful s f.entries rest f.front
+-- a refusal to read
+pub refuses : (s : List ℕ) (r : Result (Vec (Placed CodeEntry) Global) Fault) (f : LoadFault) → Reads list_format entry s r → (fault : Fault) × (r ≡ Err fault) × (f ≡ load_fault fault) → ReadsExactly s (Err f)
+refuses s r f h (fault, is, made) = rw made (by fault (rw is at h))
+  where
+    by : (fault : Fault) → Reads list_format entry s (Err fault) → ReadsExactly s (Err (load_fault fault))
+    by (Stopped why byte) h = inr (why, byte, refl, means_only list_format lawful s (Err (why, byte)) h)
+    by (OutOfMemory e) h = inl refl
 
-  pub malformed : ¬ (length rest ≡ 0) → ¬ Begins list_format rest → MeansOnly list_format s (Err (Malformed, length s - length rest))
-  malformed n b = stops_malformed list_format lawful s f.entries rest f.front (λ e. n (ap length e)) b
+-- all entries
+pub whole : (s : List ℕ) (v : Vec (Placed CodeEntry) Global) (xs : List (Placed CodeEntry)) (i : ℕ) (m : SyntheticModule) → Reads list_format entry s (Ok v) → xs ≡ vec_items v → length xs ≤ i → MadeOf (take i xs) m → ReadsExactly s (Ok m)
+whole s v xs i m r is l f =
+    let es = listed (vec_items v) in
+    let all = ap listed (take_all i xs l ∙ is) in
+    let declares = f.declares ∙ ap module_of all in (
+      es,
+      record {
+        means = means_only list_format lawful s (Ok es) r.0;
+        declares = declares;
+        cells = rw declares (module_entries es);
+        values = f.values ∙ ap values_of all;
+        well = ap well_formed declares ∙ module_well_formed es r.0.well;
+      },
+    )
 
-  pub whole_list : length rest ≡ 0 → (es : List Entry) × IsModule s es m
-  whole_list n =
-      let front : Front list_format s f.entries [] = record { all = ap (λ r. all_encoded list_format f.entries ++ r) (sym (nil_from_length rest n)) ∙ f.front.all; well = f.front.well } in (
-        f.entries,
-        record {
-          means = means_only list_format lawful s (Ok f.entries) front;
-          declares = f.declares;
-          cells = subst (HasACellForEachEntry f.entries) (sym f.declares) (module_entries f.entries);
-          values = f.values;
-          well = ap well_formed f.declares ∙ module_well_formed f.entries f.front.well;
-        },
-      )
-
-  module _ (x : rust.Entry) (r : ReadsEntry rest (Some x)) where
-    abbrev begins : Begins list_format rest
-    begins = record { entry = r.0; rest = x.rest.now; is = r.1.is; well = r.1.well }
-
-    pub shorter : length x.rest.now < length rest
-    shorter = omega (arith, ap length r.1.is, length-append (list_format.encoded r.0) x.rest.now, lawful.has_a_byte r.0)
-
-    pub refused : (why : Stop) → refusal names x.name.now ≡ Some why → MeansOnly list_format s (Err (why, length s - length rest))
-    refused why e = stops_refused list_format lawful s f.entries rest f.front begins names f.are why (ap (refusal names) (sym r.1.name_is) ∙ e)
-
-    pub one_more_read : (m' : SyntheticModule) (names' : List Name) → refusal names x.name.now ≡ None → plain m'.«record» ≡ with_entry (plain m.«record») x.name.now (length s - length rest) → vec_items m'.values ≡ vec_items m.values ++ (x.value ∷ []) → names' ≡ names ++ (x.name.now ∷ []) → SoFar s m' names' x.rest.now
-    one_more_read m' names' e p q n =
-        let is = r.1.name_is in
-        record {
-          entries = f.entries ++ (r.0 ∷ []);
-          front = goes_on list_format lawful s f.entries rest f.front begins names f.are (ap (refusal names) (sym is) ∙ e);
-          declares = p
-              ∙ ap (λ k. with_entry k x.name.now (length s - length rest)) f.declares
-              ∙ ap (λ k. with_entry (module_of f.entries) k (length s - length rest)) is
-              ∙ ap (with_entry (module_of f.entries) r.0.name) (sym (byte_is list_format lawful s f.entries rest f.front))
-              ∙ sym (module_push r.0 f.entries);
-          values = q ∙ ap (λ l. l ++ (x.value ∷ [])) f.values ∙ ap (λ v. values_of f.entries ++ (v ∷ [])) r.1.value_is ∙ sym (map_push (λ e. value e.content) f.entries r.0);
-          are = n ∙ ap (λ l. l ++ (x.name.now ∷ [])) f.are ∙ ap (λ v. map (λ e. e.name) f.entries ++ (v ∷ [])) is ∙ sym (map_push (λ e. e.name) f.entries r.0);
-        }
+-- one entry more
+pub one_more : (xs : List (Placed CodeEntry)) (i : ℕ) (d : Placed CodeEntry) (m m' : SyntheticModule) → PlacedFrom list_format entry 0 xs → i < length xs → MadeOf (take i xs) m → plain m'.«record» ≡ with_entry (plain m.«record») (get_or xs i d).entry.name.now (get_or xs i d).byte → vec_items m'.values ≡ vec_items m.values ++ (value (content (get_or xs i d).entry.content) ∷ []) → MadeOf (take (i + 1) xs) m'
+one_more xs i d m m' placed l f p q =
+    let x = get_or xs i d in
+    let es = listed (take i xs) in
+    let more : listed (take (i + 1) xs) ≡ es ++ (entry x.entry ∷ []) = ap listed (take_more xs i d l) ∙ map_push (λ y. entry y.entry) (take i xs) x in
+    record {
+      declares = p
+          ∙ ap (λ k. with_entry k x.entry.name.now x.byte) f.declares
+          ∙ ap (with_entry (module_of es) x.entry.name.now) (byte_at list_format entry 0 xs placed i d l ∙ zero-add _)
+          ∙ sym (module_push (entry x.entry) es)
+          ∙ ap module_of (sym more);
+      values = q ∙ ap (λ l. l ++ (value (content x.entry.content) ∷ [])) f.values ∙ sym (map_push (λ e. value e.content) es (entry x.entry)) ∙ ap values_of (sym more);
+    }

@@ -1,9 +1,11 @@
 // A list as a module.
 ghost use Rattle.std.specs.Prelude.{◌≡◌, [], ◌∷◌, ◌++◌, OnOk};
 ghost use Rattle.record.specs.Plain.{plain};
-ghost use Rattle.list.specs.Lists.{module_of};
+ghost use Rattle.list.specs.Lists.{module_of, value};
 ghost use Rattle.list.specs.Modules.{with_entry};
+ghost use Rattle.list.specs.Reading.{content};
 
+use crate::entry::Entry;
 use names::Name;
 use record::{CellEntry, LocalExport, Record, Value};
 use std::alloc::{AllocError, Global};
@@ -34,29 +36,28 @@ impl SyntheticModule {
         }
     }
 
-    // Declares and exports one more cell.
+    // Declares and exports a cell for an entry that begins at this byte.
     pub(crate) fn add(
         &mut self,
         heap: Global,
-        name: &[u8],
-        value: Value,
+        entry: &Entry<'_>,
         byte: usize,
     ) -> Result<(), AllocError>
-        ensures declares { OnOk result (plain self.new.«record» ≡ with_entry (plain self.old.«record») name.now byte) }
-        ensures values { OnOk result (self.new.values.items ≡ self.old.values.items ++ (value ∷ [])) }
+        ensures declares { OnOk result (plain self.new.«record» ≡ with_entry (plain self.old.«record») entry.now.name.now byte) }
+        ensures values { OnOk result (self.new.values.items ≡ self.old.values.items ++ (value (content entry.now.content) ∷ [])) }
     {
         let declared = CellEntry {
-            name: Name::new(heap, name)?,
+            name: Name::new(heap, entry.name)?,
             byte,
         };
         let exported = LocalExport {
-            export_name: Name::new(heap, name)?,
+            export_name: Name::new(heap, entry.name)?,
             cell: self.record.cells.len(),
             byte,
         };
         self.record.cells.push(declared)?;
         self.record.locals.push(exported)?;
-        self.values.push(value)?;
+        self.values.push(Value::from(entry.content))?;
         Ok(())
     }
 }

@@ -1,42 +1,44 @@
-// Lists, entry by entry.
+// Lists, read as modules.
 ghost use Rattle.std.specs.Prelude.{◌≡◌};
-ghost use Rattle.list.specs.Reading.{refused_for, ReadsExactly};
+ghost use Rattle.list.specs.Reading.{cause_of, load_fault, ReadsExactly};
 
-use crate::entry::entry_in;
+use crate::entry::Entry;
 use crate::module::SyntheticModule;
-use entries::{Seen, Stop};
+use entries::{Fault, Placed, Stop};
 use record::{Cause, LoadFault};
 use std::alloc::Global;
 
-fn refused(stop: Stop, byte: usize) -> LoadFault
-    ensures { result ≡ refused_for stop byte }
+fn cause_of(why: Stop) -> Cause
+    ensures { result ≡ cause_of why }
 {
-    let cause = match stop {
+    match why {
         Stop::Malformed => Cause::MalformedList,
         Stop::TooMany => Cause::OverLimit,
         Stop::Repeated => Cause::RepeatedName,
-    };
-    LoadFault { cause, byte }
+    }
+}
+
+// A function, since neither type is of this crate.
+fn refused(fault: Fault) -> LoadFault
+    ensures { result ≡ load_fault fault }
+{
+    match fault {
+        Fault::Stopped { why, byte } => LoadFault {
+            cause: cause_of(why),
+            byte,
+        },
+        Fault::OutOfMemory(e) => LoadFault::from(e),
+    }
 }
 
 // Reads a list: its module, or the cause and the byte that it is refused with.
 pub fn read(heap: Global, bytes: &[u8]) -> Result<SyntheticModule, LoadFault>
     ensures { ReadsExactly bytes.now result }
 {
+    let all = entries::read::<Entry<'_>>(heap, bytes).map_err(refused)?;
     let mut module = SyntheticModule::new(heap);
-    let mut seen = Seen::new(heap);
-    let mut rest = bytes;
-    while !rest.is_empty() {
-        let byte = bytes.len() - rest.len();
-        let Some(entry) = entry_in(rest) else {
-            return Err(refused(Stop::Malformed, byte));
-        };
-        if let Some(stop) = seen.refusal(entry.name) {
-            return Err(refused(stop, byte));
-        }
-        seen.add(entry.name)?;
-        module.add(heap, entry.name, entry.value, byte)?;
-        rest = entry.rest;
+    for Placed { byte, entry } in &all {
+        module.add(heap, entry, *byte)?;
     }
     Ok(module)
 }

@@ -1,10 +1,6 @@
-use Rattle.std.proofs.Common.{length}
-use Rattle.entries.specs.Seen.{seen}
-use Rattle.list.proofs.Reading.{SoFar}
+use Rattle.std.proofs.Common.{take}
+use Rattle.list.proofs.Reading.{MadeOf}
 use Rattle.list.proofs.reader.read.Given as goal
 
-abbrev pub invariant-loop-rest : goal.invariant-loop-rest
-invariant-loop-rest l = SoFar l.bytes l.module (seen l.seen) l.rest
-
-abbrev pub decreases-loop-rest : goal.decreases-loop-rest
-decreases-loop-rest l = length l.rest
+abbrev pub invariant-loop-byte : goal.invariant-loop-byte
+invariant-loop-byte l = MadeOf (take l.byte-index l.byte-items) l.module
