@@ -1,49 +1,36 @@
 -- Reading a bundle entry by entry.
-use Rattle.std.proofs.Common.{◌≡◌, ℕ, ◌-◌, ◌<◌, ◌≤◌, true, false, ◌⊎◌, List, [], ◌∷◌, ◌++◌, map, length, is_some, Some, None, Ok, Err, Option, Result, sym, refl, ap, ◌∙◌, subst, inl, inr, append-nil, arith, length-append}
-use Rattle.std.proofs.lemmas.Bool.{true≢false, false≢true}
-use Rattle.names.specs.Names.{Name}
+use Rattle.std.proofs.Common.{◌≡◌, ℕ, ◌≤◌, true, ◌⊎◌, List, [], ◌∷◌, map, length, Ok, Err, Result, Vec, vec_items, sym, refl, ap, ◌∙◌, inl, inr, append-nil, arith}
 use Rattle.record.specs.declared.denial.Denial.{Denial}
-use Rattle.entries.specs.declared.stop.Stop.{Stop}
-use Rattle.entries.specs.declared.stop.Stop.TheVariants.{Malformed}
-use Rattle.entries.specs.Entries.{all_encoded, well_formed, Front, Begins}
-use Rattle.entries.specs.Seen.{refusal}
-use Rattle.entries.proofs.Steps.{stops_malformed, stops_refused, goes_on}
+use Rattle.std.specs.declared.alloc.Global.{Global}
+use Rattle.entries.specs.declared.fault.Fault.{Fault}
+use Rattle.entries.specs.declared.fault.Fault.TheVariants.{Stopped, OutOfMemory}
+use Rattle.entries.specs.declared.placed.Placed.{Placed}
+use Rattle.entries.specs.Reading as entries
+use Rattle.entries.specs.Reading.{all_contents}
+use Rattle.bundle.specs.declared.entry.Entry as code
+use Rattle.entries.specs.Entries.{all_encoded, well_formed}
 use Rattle.entries.proofs.Unique.{means_only}
-use Rattle.bundle.specs.Format.{Entry, format}
-use Rattle.bundle.specs.Bundles.{malformed_at, IsOutOfMemory, Refused, too_long, stops, Reads, TakesFirst, InvertsWriting}
+use Rattle.bundle.specs.Format.{Entry, format, plain, plain_all}
+use Rattle.bundle.specs.Bundles.{denial, IsOutOfMemory, too_long, stops, Reads, InvertsWriting}
 use Rattle.bundle.proofs.Lawful.{lawful}
 
--- what a refused name is refused for
-some_stop : (o : Option Stop) → is_some o ≡ true → (why : Stop) × (o ≡ Some why)
-some_stop None e = absurd (false≢true e)
-some_stop (Some why) e = (why, refl)
+-- a refusal to read
+pub refuses : (s : List ℕ) (r : Result (Vec (Placed code.Entry) Global) Fault) (d : Denial) → length s ≤ 65536 → entries.Reads format plain s r → (fault : Fault) × (r ≡ Err fault) × (d ≡ denial fault) → Reads s (Err d)
+refuses s r d short h (fault, is, made) = rw made (by fault (rw is at h))
+  where
+    by : (fault : Fault) → entries.Reads format plain s (Err fault) → Reads s (Err (denial fault))
+    by (Stopped why byte) h = inr (stops why short (means_only format lawful s (Err (why, byte)) h))
+    by (OutOfMemory e) h = inl refl
 
-no_stop : (o : Option Stop) → is_some o ≡ false → o ≡ None
-no_stop None e = refl
-no_stop (Some why) e = absurd (true≢false e)
-
-module _ (s : List ℕ) (es : List Entry) (rest : List ℕ) (f : Front format s es rest) where
-  module _ (short : length s ≤ 65536) (d : Denial) (is : d ≡ malformed_at (length s - length rest)) where
-    pub no_entry : ¬ (rest ≡ []) → ¬ Begins format rest → Refused s d
-    no_entry n b = subst (Refused s) (sym is) (stops Malformed short (stops_malformed format lawful s es rest f n b))
-
-    pub no_room : (x : Entry) (more : List ℕ) (names : List Name) → TakesFirst rest (Some (x, more)) → names ≡ map (λ e. e.key) es → is_some (refusal names x.key) ≡ true → Refused s d
-    no_room x more names t e r =
-        let (why, w) = some_stop (refusal names x.key) r in
-        subst (Refused s) (sym is) (stops why short (stops_refused format lawful s es rest f (record { entry = x; rest = more; is = t.0; well = t.1 }) names e why w))
-
-  pub one_more : (x : Entry) (more : List ℕ) (names : List Name) → TakesFirst rest (Some (x, more)) → names ≡ map (λ e. e.key) es → is_some (refusal names x.key) ≡ false → Front format s (es ++ (x ∷ [])) more
-  one_more x more names t e r = goes_on format lawful s es rest f (record { entry = x; rest = more; is = t.0; well = t.1 }) names e (no_stop (refusal names x.key) r)
-
-  pub all_read : length rest ≡ 0 → length s ≤ 65536 → Reads s (Ok es)
-  all_read n short = (short, means_only format lawful s (Ok es) (subst (Front format s es) (none rest n) f))
-    where
-      none : (l : List ℕ) → length l ≡ 0 → l ≡ []
-      none [] h = refl
-      none (x ∷ l) h = absurd (omega arith)
-
-pub rest_shrinks : (rest : List ℕ) (x : Entry) (more : List ℕ) → TakesFirst rest (Some (x, more)) → length more < length rest
-rest_shrinks rest x more t = let n = ap length t.0 in omega (arith, length-append (format.encoded x) more)
+-- all entries
+pub all_read : (s : List ℕ) (v : Vec (Placed code.Entry) Global) (xs : List code.Entry) → length s ≤ 65536 → entries.Reads format plain s (Ok v) → xs ≡ map (λ x. x.entry) (vec_items v) → Reads s (Ok (plain_all xs))
+all_read s v xs short h is =
+    let same : plain_all xs ≡ all_contents plain (vec_items v) = ap plain_all is ∙ contents_of (vec_items v) in
+    (short, means_only format lawful s (Ok (plain_all xs)) (rw same h.0))
+  where
+    contents_of : (ys : List (Placed code.Entry)) → plain_all (map (λ x. x.entry) ys) ≡ all_contents plain ys
+    contents_of [] = refl
+    contents_of (y ∷ ys) = ap (λ l. plain y.entry ∷ l) (contents_of ys)
 
 -- what is read exactly inverts writing
 pub inverts : (s : List ℕ) (r : Result (List Entry) Denial) → Reads s r → InvertsWriting s r

@@ -1,5 +1,5 @@
 -- Writing a bundle entry by entry.
-use Rattle.std.proofs.Common.{◌≡◌, ℕ, ◌+◌, ◌-◌, ◌<◌, ◌≤◌, Bool, true, false, ltb, ◌⊎◌, List, [], ◌∷◌, ◌++◌, map, length, get_or, take, drop, is_some, Some, None, Ok, Err, Option, Result, sym, refl, ap, ◌∙◌, subst, inl, inr, append_assoc, append-nil, arith, length-append}
+use Rattle.std.proofs.Common.{◌≡◌, ℕ, ◌+◌, ◌-◌, ◌<◌, ◌≤◌, Bool, true, false, ltb, ◌⊎◌, List, [], ◌∷◌, ◌++◌, map, length, get_or, take, drop, Some, None, Ok, Err, Option, Result, sym, refl, ap, ◌∙◌, subst, inl, inr, append_assoc, append-nil, arith, length-append}
 use mathlib.Core.List.{Memᴰ}
 use lib.ListN.{length-map}
 use Rattle.std.specs.Option.{SomeIff}
@@ -12,7 +12,7 @@ use Rattle.entries.specs.declared.stop.Stop.TheVariants.{Malformed, TooMany, Rep
 use Rattle.entries.specs.Entries as entries
 use Rattle.entries.specs.Entries.{all_encoded, well_formed, Begins, Stops}
 use Rattle.entries.specs.Seen.{refusal}
-use Rattle.entries.proofs.Seeing.{refused_since, passed_since}
+use Rattle.entries.proofs.Seeing.{RefusedFor, refused_since, passed_since}
 use Rattle.entries.proofs.Unique.{all_encoded_append, parts, well_formed_more, means_only}
 use Rattle.bundle.specs.declared.entry.Entry as code
 use Rattle.bundle.specs.Format.{Entry, encoded, good, format, plain, plain_all}
@@ -89,14 +89,15 @@ module _ (l : List code.Entry) where
         size : length names ≡ length (plain_all (take i l))
         size = ap length is ∙ length-map (plain_all (take i l)) (λ e. e.key)
 
-        pub refused_place : is_some (refusal names (plain (get_or l i d)).key) ≡ true → Misplaced (plain_all (take i l)) (plain (get_or l i d))
-        refused_place r = by (refused_since names (plain (get_or l i d)).key r)
+        pub refused_place : (why : Stop) → refusal names (plain (get_or l i d)).key ≡ Some why → Misplaced (plain_all (take i l)) (plain (get_or l i d))
+        refused_place why r = by why (refused_since names (plain (get_or l i d)).key why r)
           where
-            by : (32 ≤ length names) ⊎ ((length names < 32) × (among names (plain (get_or l i d)).key ≡ true)) → Misplaced (plain_all (take i l)) (plain (get_or l i d))
-            by (inl n) = inr (inl (let k = (parts format (plain_all (take i l)) well).few in omega (arith, size)))
-            by (inr n) = inr (inr (ap (λ ns. among ns (plain (get_or l i d)).key) (sym is) ∙ n.1))
+            by : (w : Stop) → RefusedFor names (plain (get_or l i d)).key w → Misplaced (plain_all (take i l)) (plain (get_or l i d))
+            by Malformed n = absurd n
+            by TooMany n = inr (inl (let k = (parts format (plain_all (take i l)) well).few in omega (arith, size)))
+            by Repeated n = inr (inr (ap (λ ns. among ns (plain (get_or l i d)).key) (sym is) ∙ n.1))
 
-        pub well_more : good (plain (get_or l i d)) ≡ true → is_some (refusal names (plain (get_or l i d)).key) ≡ false → well_formed format (plain_all (take (i + 1) l)) ≡ true
+        pub well_more : good (plain (get_or l i d)) ≡ true → refusal names (plain (get_or l i d)).key ≡ None → well_formed format (plain_all (take (i + 1) l)) ≡ true
         well_more g r =
             let p = passed_since names (plain (get_or l i d)).key r in
             let n = p.0 in

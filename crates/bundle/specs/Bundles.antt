@@ -1,16 +1,24 @@
 -- What reading and writing a bundle answer.
-use Rattle.std.specs.Prelude.{◌≡◌, ℕ, ◌<◌, ◌≤◌, true, false, ◌⊎◌, List, ◌∷◌, ◌++◌, map, length, Some, None, Ok, Err, Option, Result}
+use Rattle.std.specs.Prelude.{◌≡◌, ℕ, ◌<◌, ◌≤◌, true, false, ◌⊎◌, List, ◌∷◌, ◌++◌, map, length, None, Ok, Err, Result}
 use mathlib.Core.List.{Memᴰ}
 use Rattle.names.specs.Names.{among}
 use Rattle.record.specs.declared.denial.Cause.TheVariants.{MalformedBundle, OutOfMemory}
 use Rattle.record.specs.declared.denial.Denial.{Denial}
+use Rattle.record.specs.Memory.{memory_denial}
+use Rattle.entries.specs.declared.fault.Fault.{Fault}
+use Rattle.entries.specs.declared.fault.Fault.TheVariants.{Stopped, OutOfMemory}
 use Rattle.entries.specs.declared.stop.Stop.{Stop}
-use Rattle.entries.specs.Entries.{all_encoded, well_formed, Begins, MeansOnly}
+use Rattle.entries.specs.Entries.{all_encoded, well_formed, MeansOnly}
 use Rattle.bundle.specs.Format.{Entry, good, format}
 
 -- the denial of a bundle at a byte; it names no place
 abbrev pub malformed_at : ℕ → Denial
 malformed_at byte = record { cause = MalformedBundle; place = None; byte = byte }
+
+-- what a fault in reading is denied with
+abbrev pub denial : Fault → Denial
+denial (Stopped why byte) = malformed_at byte
+denial (OutOfMemory e) = memory_denial
 
 abbrev pub IsOutOfMemory : Denial → Type 0
 IsOutOfMemory d = d.cause ≡ OutOfMemory
@@ -24,11 +32,6 @@ pub data Refused (s : List ℕ) : Denial → Type 0 where
 abbrev pub Reads : List ℕ → Result (List Entry) Denial → Type 0
 Reads s (Ok es) = (length s ≤ 65536) × MeansOnly format s (Ok es)
 Reads s (Err d) = IsOutOfMemory d ⊎ Refused s d
-
--- a well-formed entry is taken from the front, where one stands
-abbrev pub TakesFirst : List ℕ → Option (Entry × List ℕ) → Type 0
-TakesFirst s None = ¬ Begins format s
-TakesFirst s (Some x) = (format.encoded x.0 ++ x.1 ≡ s) × (good x.0 ≡ true)
 
 -- reading inverts writing: what some well-formed entries are written as is read as those entries, and nothing else is read
 pub record InvertsWriting (s : List ℕ) (r : Result (List Entry) Denial) : Type 0 where

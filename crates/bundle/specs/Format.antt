@@ -1,6 +1,5 @@
 -- How a bundle is written.
 use Rattle.std.specs.Prelude.{ℕ, ◌+◌, ◌*◌, ◌/◌, ◌%◌, Bool, cond, ◌&&◌, List, [], ◌∷◌, ◌++◌, map, length, Some, None, Ok, Err, vec_items, Option, Result, Vec, nat_lt}
-use Rattle.std.specs.Borrow.{Bor}
 use Rattle.std.specs.declared.alloc.Global.{Global}
 use Rattle.names.specs.Names.{Name}
 use Rattle.names.specs.Keys.{key}
@@ -45,11 +44,6 @@ plain e = record { kind = e.kind; key = e.key.now; payload = e.payload.now }
 
 abbrev pub plain_all : List code.Entry → List Entry
 plain_all es = map plain es
-
--- a first entry and what stands behind it, by their contents
-abbrev pub plain_first : Option (code.Entry × Bor (List ℕ)) → Option (Entry × List ℕ)
-plain_first None = None
-plain_first (Some x) = Some (plain x.0, x.1.now)
 
 -- what a read answers, by its contents
 abbrev pub plain_read : Result (Vec code.Entry Global) Denial → Result (List Entry) Denial

@@ -5,6 +5,6 @@ mod entry;
 mod reader;
 mod writer;
 
-pub use entry::{Entry, PayloadKind};
+pub use entry::{Entry, PayloadKind, UnknownKind};
 pub use reader::read;
 pub use writer::write;

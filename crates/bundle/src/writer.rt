@@ -2,11 +2,11 @@
 ghost use Rattle.std.specs.Prelude.{◌≡◌, ◌-◌, ◌≤◌, true, ◌++◌, length, OnOk, nat_lt};
 ghost use Rattle.std.specs.Option.{SomeIff};
 ghost use Rattle.entries.specs.Entries.{all_encoded};
-ghost use Rattle.bundle.specs.Format.{kind_number, head_bytes, encoded, good, format, plain, plain_all, plain_written};
+ghost use Rattle.bundle.specs.Format.{head_bytes, encoded, good, format, plain, plain_all, plain_written};
 ghost use Rattle.bundle.specs.Bundles.{Writes, RefusesAsReadingWould};
 
-use crate::entry::{Entry, PayloadKind};
-use crate::reader::{LONGEST, malformed};
+use crate::entry::Entry;
+use crate::reader::{LONGEST, denied, malformed};
 use entries::Seen;
 use names::is_key;
 use record::Denial;
@@ -41,26 +41,13 @@ fn is_well_formed(e: &Entry<'_>) -> bool
     is_key(e.key) && e.payload.len() < 65536
 }
 
-fn kind_number(kind: PayloadKind) -> u8
-    ensures { result ≡ kind_number kind }
-{
-    match kind {
-        PayloadKind::Text => 0,
-        PayloadKind::List => 1,
-    }
-}
-
 // The bytes before an entry's key.
 fn head(e: &Entry<'_>) -> [u8; 3]
     requires { good (plain e.now) ≡ true }
     ensures { result ≡ head_bytes (plain e.now) }
 {
-    let size = e.payload.len();
-    [
-        64 * kind_number(e.kind) + e.key.len() as u8,
-        (size / 256) as u8,
-        (size % 256) as u8,
-    ]
+    let [high, low] = (e.payload.len() as u16).to_be_bytes();
+    [64 * u8::from(e.kind) + e.key.len() as u8, high, low]
 }
 
 fn append(out: &mut Vec<u8>, e: &Entry<'_>) -> Result<(), AllocError>
@@ -84,9 +71,7 @@ fn write_entries(heap: Global, entries: &[Entry<'_>]) -> Result<Vec<u8>, Denial>
         if !is_well_formed(e) {
             return Err(malformed(out.len()));
         }
-        if seen.refusal(e.key).is_some() {
-            return Err(malformed(out.len()));
-        }
+        seen.check(e.key, out.len()).map_err(denied)?;
         seen.add(e.key)?;
         append(&mut out, e)?;
     }

@@ -1,15 +1,16 @@
 -- Entries being read: what is known behind those read so far.
-use Rattle.std.proofs.Common.{◌≡◌, ◌<◌, ℕ, zero, suc, get_or, take, ◌+◌, ◌-◌, ◌≤◌, Bool, true, false, cond, leb, List, [], ◌∷◌, ◌++◌, map, length, Some, None, Ok, sym, refl, ap, ◌∙◌, subst, arith, length-append}
+use Rattle.std.proofs.Common.{◌≡◌, ◌<◌, ℕ, zero, suc, get_or, take, ◌+◌, ◌-◌, ◌≤◌, List, [], ◌∷◌, ◌++◌, map, length, Some, None, Ok, sym, refl, ap, ◌∙◌, subst, arith, length-append}
 use lib.ListN.{length-map}
-use Rattle.std.proofs.lemmas.Bool.{leb-true, leb-false}
 use Rattle.std.proofs.lemmas.List.{map_push, nil_from_length}
 use Rattle.names.specs.Names.{Name, among}
 use Rattle.entries.specs.declared.stop.Stop.{Stop}
+use Rattle.entries.specs.declared.stop.Stop.TheVariants.{Malformed, TooMany, Repeated}
 use Rattle.entries.specs.declared.stop.Stop.TheVariants.{TooMany, Repeated}
 use Rattle.entries.specs.declared.placed.Placed.{Placed}
 use Rattle.entries.specs.Seen.{refusal}
 use Rattle.entries.specs.Entries.{Format, all_encoded, Front, Begins, Refused, Stops, Means}
 use Rattle.entries.specs.Reading.{all_contents, PlacedFrom, TakesFirst}
+use Rattle.entries.proofs.Seeing.{RefusedFor, refused_since, passed_since}
 use Rattle.entries.proofs.Unique.{parts, front_none, front_more}
 
 -- the entries in front of the rest, their names and their bytes
@@ -61,30 +62,21 @@ module _ {R E : Type 0} (F : Format E) (contents : R → E) where
 
       -- an entry that is refused
       pub refused : (why : Stop) → refusal names n ≡ Some why → Stops F s why (length s - length rest)
-      refused why e = stops why (by (leb 32 (length names)) (among names n) refl refl e)
+      refused why e = stops why (by why (refused_since names n why e))
         where
-          by : (t u : Bool) → leb 32 (length names) ≡ t → among names n ≡ u → cond t (Some TooMany) (cond u (Some Repeated) None) ≡ Some why → Refused F (all_contents contents xs) rest why
-          by true u p q h =
-              let is : TooMany ≡ why = cc in
-              let few = (parts F (all_contents contents xs) f.front.well).few in
-              subst (Refused F (all_contents contents xs) rest) is (omega (arith, leb-true 32 (length names) p, count), begins)
-          by false true p q h =
-              let is : Repeated ≡ why = cc in
-              subst (Refused F (all_contents contents xs) rest) is (omega (arith, leb-false 32 (length names) p, count), (begins, sym there ∙ q))
-          by false false p q h = cc
+          by : (w : Stop) → RefusedFor names n w → Refused F (all_contents contents xs) rest w
+          by Malformed h = absurd h
+          by TooMany h = let few = (parts F (all_contents contents xs) f.front.well).few in (omega (arith, count), begins)
+          by Repeated (l, h) = (omega (arith, count), (begins, sym there ∙ h))
 
       -- an entry that is read
       pub one_more : (xs' : List (Placed R)) (names' : List Name) → refusal names n ≡ None → xs' ≡ xs ++ (record { byte = length s - length rest; entry = x } ∷ []) → names' ≡ names ++ (n ∷ []) → SoFar F contents s xs' names' behind
-      one_more xs' names' e p q = rw (p, q) (by (leb 32 (length names)) (among names n) refl refl e)
-        where
-          pushed : all_contents contents (xs ++ (record { byte = length s - length rest; entry = x } ∷ [])) ≡ all_contents contents xs ++ (contents x ∷ [])
-          pushed = map_push (λ z. contents z.entry) xs (record { byte = length s - length rest; entry = x })
-
-          by : (t u : Bool) → leb 32 (length names) ≡ t → among names n ≡ u → cond t (Some TooMany) (cond u (Some Repeated) None) ≡ None → SoFar F contents s (xs ++ (record { byte = length s - length rest; entry = x } ∷ [])) (names ++ (n ∷ [])) behind
-          by true u p q h = cc
-          by false true p q h = cc
-          by false false p q h = record {
-            front = subst (λ es. Front F s es behind) (sym pushed) (front_more F s (all_contents contents xs) rest f.front (contents x) behind t.0 t.1 (omega (arith, leb-false 32 (length names) p, count)) (sym there ∙ q));
+      one_more xs' names' e p q =
+          let y : Placed R = record { byte = length s - length rest; entry = x } in
+          let (few, new) = passed_since names n e in
+          let pushed : all_contents contents (xs ++ (y ∷ [])) ≡ all_contents contents xs ++ (contents x ∷ []) = map_push (λ z. contents z.entry) xs y in
+          rw (p, q) (record {
+            front = subst (λ es. Front F s es behind) (sym pushed) (front_more F s (all_contents contents xs) rest f.front (contents x) behind t.0 t.1 (omega (arith, count)) (sym there ∙ new));
             are = ap (λ l. l ++ (n ∷ [])) f.are ∙ ap (λ l. map F.name (all_contents contents xs) ++ (l ∷ [])) is ∙ sym (map_push F.name (all_contents contents xs) (contents x)) ∙ ap (map F.name) (sym pushed);
-            placed = placed_more 0 xs (record { byte = length s - length rest; entry = x }) f.placed (omega (arith, byte_is));
-          }
+            placed = placed_more 0 xs y f.placed (omega (arith, byte_is));
+          })

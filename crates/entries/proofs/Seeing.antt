@@ -1,10 +1,11 @@
--- A loop that looks for a name among those seen, and what it finds.
-use Rattle.std.proofs.Common.{◌≡◌, ℕ, ◌<◌, ◌≤◌, Bool, true, false, cond, ◌||◌, leb, ◌⊎◌, List, [], ◌∷◌, map, length, is_some, Some, None, sym, refl, ap, ◌∙◌, inl, inr, Bor}
+-- What is found of a name among those seen.
+use Rattle.std.proofs.Common.{◌≡◌, ℕ, ◌<◌, ◌≤◌, Bool, true, false, cond, ◌||◌, leb, List, [], ◌∷◌, map, length, Some, None, refl, ap, subst, Bor}
 use Rattle.std.specs.Str.{bytes_eq}
 use Rattle.std.specs.List.{list_any}
-use Rattle.std.proofs.lemmas.Bool.{le-leb, lt-leb, leb-true, leb-false, cond-true, cond-false, true≢false, false≢true}
+use Rattle.std.proofs.lemmas.Bool.{leb-true, leb-false}
 use Rattle.names.specs.Names.{Name, among}
-use Rattle.entries.specs.declared.stop.Stop.TheVariants.{TooMany, Repeated}
+use Rattle.entries.specs.declared.stop.Stop.{Stop}
+use Rattle.entries.specs.declared.stop.Stop.TheVariants.{Malformed, TooMany, Repeated}
 use Rattle.entries.specs.Seen.{refusal}
 
 -- a name is among those seen if the test finds it
@@ -12,33 +13,24 @@ pub among_any : (rs : List (Bor (List ℕ))) (x : Name) → list_any (λ y. byte
 among_any [] x = refl
 among_any (r ∷ rs) x = ap (λ t. bytes_eq r.now x || t) (among_any rs x)
 
-module _ (xs : List Name) (x : Name) where
-  pub refuses_a_33rd : 32 ≤ length xs → Some TooMany ≡ refusal xs x
-  refuses_a_33rd l = sym (cond-true _ _ _ (le-leb 32 (length xs) l))
+-- what each refusal says of the names
+abbrev pub RefusedFor : List Name → Name → Stop → Type 0
+RefusedFor xs x Malformed = ⊥
+RefusedFor xs x TooMany = 32 ≤ length xs
+RefusedFor xs x Repeated = (length xs < 32) × (among xs x ≡ true)
 
-  module _ (l : length xs < 32) where
-    second : refusal xs x ≡ cond (among xs x) (Some Repeated) None
-    second = cond-false _ _ _ (lt-leb 32 (length xs) l)
+pub refused_since : (xs : List Name) (x : Name) (why : Stop) → refusal xs x ≡ Some why → RefusedFor xs x why
+refused_since xs x why e = by (leb 32 (length xs)) (among xs x) refl refl e
+  where
+    by : (t u : Bool) → leb 32 (length xs) ≡ t → among xs x ≡ u → cond t (Some TooMany) (cond u (Some Repeated) None) ≡ Some why → RefusedFor xs x why
+    by true u p q h = let is : TooMany ≡ why = cc in subst (RefusedFor xs x) is (leb-true 32 (length xs) p)
+    by false true p q h = let is : Repeated ≡ why = cc in subst (RefusedFor xs x) is (leb-false 32 (length xs) p, q)
+    by false false p q h = cc
 
-    pub refuses_a_repeated : among xs x ≡ true → Some Repeated ≡ refusal xs x
-    refuses_a_repeated e = sym (second ∙ cond-true _ _ _ e)
-
-    pub refuses_no_other : among xs x ≡ false → None ≡ refusal xs x
-    refuses_no_other e = sym (second ∙ cond-false _ _ _ e)
-
-refused_if : (xs : List Name) (x : Name) (t u : Bool) → leb 32 (length xs) ≡ t → among xs x ≡ u → is_some (cond t (Some TooMany) (cond u (Some Repeated) None)) ≡ true → (32 ≤ length xs) ⊎ ((length xs < 32) × (among xs x ≡ true))
-refused_if xs x true u p q e = inl (leb-true 32 (length xs) p)
-refused_if xs x false true p q e = inr (leb-false 32 (length xs) p, q)
-refused_if xs x false false p q e = absurd (false≢true e)
-
-passed_if : (xs : List Name) (x : Name) (t u : Bool) → leb 32 (length xs) ≡ t → among xs x ≡ u → is_some (cond t (Some TooMany) (cond u (Some Repeated) None)) ≡ false → (length xs < 32) × (among xs x ≡ false)
-passed_if xs x true u p q e = absurd (true≢false e)
-passed_if xs x false true p q e = absurd (true≢false e)
-passed_if xs x false false p q e = (leb-false 32 (length xs) p, q)
-
--- what a refusal says of the names
-pub refused_since : (xs : List Name) (x : Name) → is_some (refusal xs x) ≡ true → (32 ≤ length xs) ⊎ ((length xs < 32) × (among xs x ≡ true))
-refused_since xs x e = refused_if xs x _ _ refl refl e
-
-pub passed_since : (xs : List Name) (x : Name) → is_some (refusal xs x) ≡ false → (length xs < 32) × (among xs x ≡ false)
-passed_since xs x e = passed_if xs x _ _ refl refl e
+pub passed_since : (xs : List Name) (x : Name) → refusal xs x ≡ None → (length xs < 32) × (among xs x ≡ false)
+passed_since xs x e = by (leb 32 (length xs)) (among xs x) refl refl e
+  where
+    by : (t u : Bool) → leb 32 (length xs) ≡ t → among xs x ≡ u → cond t (Some TooMany) (cond u (Some Repeated) None) ≡ None → (length xs < 32) × (among xs x ≡ false)
+    by true u p q h = cc
+    by false true p q h = cc
+    by false false p q h = (leb-false 32 (length xs) p, q)

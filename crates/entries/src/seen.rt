@@ -43,19 +43,6 @@ impl<'a> Seen<'a> {
         Ok(())
     }
 
-    // Why a well-formed entry of this name is refused behind these, if it is.
-    pub fn refusal(&self, name: &[u8]) -> Option<Stop>
-        ensures { result ≡ refusal (seen self.now) name.now }
-    {
-        if self.names.len() >= MOST {
-            return Some(Stop::TooMany);
-        }
-        if self.has(name) {
-            return Some(Stop::Repeated);
-        }
-        None
-    }
-
     pub fn add(&mut self, name: &'a [u8]) -> Result<(), AllocError>
         ensures { MatchResult result (λ _. seen self.new ≡ seen self.old ++ (name.now ∷ [])) (λ _. seen self.new ≡ seen self.old) }
     {
