@@ -6,4 +6,6 @@ mod limits;
 #[cfg(test)]
 mod made;
 #[cfg(test)]
+mod placed;
+#[cfg(test)]
 mod refused;

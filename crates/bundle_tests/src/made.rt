@@ -1,22 +1,21 @@
 // Bundles made for the tests, and what reading them gives.
 use bundle::{Entry, PayloadKind};
-use record::Cause;
 use std::alloc::{AllocError, Global};
 
-// Whether this many modules are read.
-pub(crate) fn is_read(heap: Global, bytes: &[u8], count: usize) -> bool {
+// The number of a denial, its place and its byte.
+type Denied = (Option<u8>, Option<usize>, usize);
+
+// How many modules are read, or the denial.
+pub(crate) fn count_of(heap: Global, bytes: &[u8]) -> Result<usize, Denied> {
     match bundle::read(heap, bytes) {
-        Ok(entries) => entries.len() == count,
-        Err(_) => false,
+        Ok(entries) => Ok(entries.len()),
+        Err(d) => Err((d.cause.number(), d.place, d.byte)),
     }
 }
 
-// Whether the bytes are denied with 13, no place, at this byte.
-pub(crate) fn is_denied(heap: Global, bytes: &[u8], byte: usize) -> bool {
-    match bundle::read(heap, bytes) {
-        Ok(_) => false,
-        Err(d) => matches!(d.cause, Cause::MalformedBundle) && d.place.is_none() && d.byte == byte,
-    }
+// What a malformed bundle is denied with, at this byte.
+pub(crate) fn malformed(byte: usize) -> Result<usize, Denied> {
+    Err((Some(13), None, byte))
 }
 
 // The entries `a`, `b`, .., each an empty text; from the 27th on `a0`, `b0`, ..
@@ -35,12 +34,9 @@ pub(crate) fn numbered(heap: Global, count: usize) -> Result<Vec<u8>, AllocError
 
 // One text with the key `a` and a payload of this many bytes.
 pub(crate) fn one_text(heap: Global, size: u16) -> Result<Vec<u8>, AllocError> {
-    let mut bytes = Vec::new(heap);
     let [high, low] = size.to_be_bytes();
-    bytes.extend_from_slice(&[1, high, low, b'a'])?;
-    for _ in 0..size {
-        bytes.push(b' ')?;
-    }
+    let mut bytes = [1, high, low, b'a'].to_vec(heap)?;
+    bytes.resize(4 + usize::from(size), b' ')?;
     Ok(bytes)
 }
 

@@ -7,10 +7,8 @@ use std::test::Fail;
 
 // The number of the cause and the byte of a refusal, or none.
 fn refused(heap: Global, bytes: &[u8]) -> Option<(Option<u8>, usize)> {
-    match read(heap, bytes) {
-        Ok(_) => None,
-        Err(fault) => Some((fault.cause.number(), fault.byte)),
-    }
+    let fault = read(heap, bytes).err()?;
+    Some((fault.cause.number(), fault.byte))
 }
 
 // This many entries, which are `undefined` and have distinct names of two letters.
@@ -28,9 +26,7 @@ fn entries(heap: Global, count: u8) -> Result<Vec<u8>, AllocError> {
 fn number_of(heap: Global, pattern: &[u8]) -> Result<f64, Fail> {
     let mut bytes = b"\x41a".to_vec(heap)?;
     bytes.extend_from_slice(pattern)?;
-    let Ok(module) = read(heap, &bytes) else {
-        return Err(Fail::new("refused"));
-    };
+    let module = read(heap, &bytes).ok().ok_or("refused")?;
     match module.values.get(0) {
         Some(Value::Number(x)) => Ok(*x),
         _ => Err(Fail::new("no number")),
