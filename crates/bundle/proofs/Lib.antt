@@ -1,4 +1,5 @@
 pub mod Lawful
 pub mod Taking
 pub mod Reading
+pub mod Fitting
 pub mod Writing

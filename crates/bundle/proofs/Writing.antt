@@ -1,10 +1,10 @@
 -- Writing a bundle entry by entry.
-use Rattle.std.proofs.Common.{◌≡◌, ℕ, ◌+◌, ◌-◌, ◌<◌, ◌≤◌, Bool, true, false, ltb, ◌⊎◌, List, [], ◌∷◌, ◌++◌, map, length, get_or, take, drop, Some, None, Ok, Err, Option, Result, sym, refl, ap, ◌∙◌, subst, inl, inr, append_assoc, append-nil, arith, length-append}
+use Rattle.std.proofs.Common.{◌≡◌, ℕ, ◌+◌, ◌<◌, ◌≤◌, Bool, true, false, ◌⊎◌, List, [], ◌∷◌, ◌++◌, map, length, get_or, take, drop, Some, None, Ok, Err, Option, Result, sym, refl, ap, ◌∙◌, subst, inl, inr, append_assoc, append-nil, arith}
 use mathlib.Core.List.{Memᴰ}
 use lib.ListN.{length-map}
 use Rattle.std.specs.Option.{SomeIff}
-use Rattle.std.proofs.lemmas.List.{take_more, take_all, map-append, take-append-drop, drop_more}
-use Rattle.std.proofs.lemmas.Bool.{lt-ltb, le-ltb, both_ways, cases_lt}
+use Rattle.std.proofs.lemmas.List.{take_more, map-append, take-append-drop, drop_more}
+use Rattle.std.proofs.lemmas.Bool.{both_ways, cases_lt}
 use Rattle.names.specs.Names.{Name, among}
 use Rattle.record.specs.declared.denial.Denial.{Denial}
 use Rattle.entries.specs.declared.stop.Stop.{Stop}
@@ -48,33 +48,6 @@ module _ (l : List code.Entry) where
 
   pub written_more : (i : ℕ) (d : code.Entry) → i < length l → (out out' : List ℕ) → out ≡ all_encoded format (plain_all (take i l)) → out' ≡ out ++ encoded (plain (get_or l i d)) → out' ≡ all_encoded format (plain_all (take (i + 1) l))
   written_more i d h out out' e f = f ∙ ap (λ v. v ++ encoded (plain (get_or l i d))) e ∙ sym (encoded_more i d h)
-
-  -- a part is no longer than the whole
-  part_length : (i : ℕ) → length (all_encoded format (plain_all (take i l))) ≤ length (all_encoded format (plain_all l))
-  part_length i =
-      let e = ap (λ r. length (all_encoded format (plain_all r))) (take-append-drop i l) in
-      let f = ap (λ r. length (all_encoded format r)) (map-append plain (take i l) (drop i l)) in
-      let g = ap length (all_encoded_append format (plain_all (take i l)) (plain_all (drop i l))) in
-      omega (arith, length-append (all_encoded format (plain_all (take i l))) (all_encoded format (plain_all (drop i l))))
-
-  module _ (room i : ℕ) (h : room + length (all_encoded format (plain_all (take i l))) ≡ 65536) where
-    module _ (d : code.Entry) (in_range : i < length l) where
-      more : length (all_encoded format (plain_all (take (i + 1) l))) ≡ length (all_encoded format (plain_all (take i l))) + length (encoded (plain (get_or l i d)))
-      more = ap length (encoded_more i d in_range) ∙ length-append (all_encoded format (plain_all (take i l))) (encoded (plain (get_or l i d)))
-
-      pub room_left : (left : ℕ) → (length (encoded (plain (get_or l i d))) ≤ room) × (left ≡ room - length (encoded (plain (get_or l i d)))) → left + length (all_encoded format (plain_all (take (i + 1) l))) ≡ 65536
-      room_left left c = let m = more in let a = c.0 in let b = c.1 in omega arith
-
-      pub no_room_left : ¬ (length (encoded (plain (get_or l i d))) ≤ room) → true ≡ ltb 65536 (length (all_encoded format (plain_all l)))
-      no_room_left n = sym (lt-ltb 65536 (length (all_encoded format (plain_all l))) (let m = more in let p = part_length (i + 1) in let q = not_le (length (encoded (plain (get_or l i d)))) room n in omega arith))
-        where
-          not_le : (a b : ℕ) → ¬ (a ≤ b) → b < a
-          not_le a b n = omega arith
-
-    pub fits_all : length l ≤ i → false ≡ ltb 65536 (length (all_encoded format (plain_all l)))
-    fits_all e =
-        let f = ap (λ r. length (all_encoded format (plain_all r))) (take_all i l e) in
-        sym (le-ltb 65536 (length (all_encoded format (plain_all l))) (omega arith))
 
   module _ (i : ℕ) (d : code.Entry) (in_range : i < length l) where
     all_but : plain_all (take i l) ++ (plain (get_or l i d) ∷ plain_all (drop (i + 1) l)) ≡ plain_all l

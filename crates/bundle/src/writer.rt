@@ -25,14 +25,7 @@ fn left_behind(room: usize, e: &Entry<'_>) -> Option<usize>
 fn is_too_long(entries: &[Entry<'_>]) -> bool
     ensures { result ≡ nat_lt 65536 (length (all_encoded format (plain_all entries.now))) }
 {
-    let mut room = LONGEST;
-    for e in entries {
-        match left_behind(room, e) {
-            Some(left) => room = left,
-            None => return true,
-        }
-    }
-    false
+    entries.iter().try_fold(LONGEST, left_behind).is_none()
 }
 
 fn is_well_formed(e: &Entry<'_>) -> bool
