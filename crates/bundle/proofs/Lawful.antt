@@ -1,5 +1,5 @@
 -- A bundle comes apart in one way.
-use Rattle.std.proofs.Common.{◌≡◌, ℕ, suc, ◌+◌, ◌*◌, ◌/◌, ◌%◌, ◌<◌, true, ltb, leb, List, ◌∷◌, ◌++◌, length, sym, refl, ◌∙◌, append_assoc, arith}
+use Rattle.std.proofs.Common.{◌≡◌, ℕ, suc, ◌+◌, ◌*◌, ◌/◌, ◌%◌, ◌<◌, true, ltb, leb, List, ◌++◌, length, sym, refl, ◌∙◌, append_assoc, arith}
 use native.Mathlib.Nat.{div-add-mod}
 use Rattle.std.proofs.lemmas.Bool.{and_parts, ltb-true, leb-true}
 use Rattle.names.specs.Names.{Name, every}
@@ -24,26 +24,19 @@ kind_below SyntheticList = omega arith
 
 same_kind : (j k : PayloadKind) → kind_number j ≡ kind_number k → j ≡ k
 same_kind Text Text e = refl
-same_kind Text SyntheticList e = absurd (let z : ◌≡◌ {A = ℕ} 0 1 = e in omega arith)
-same_kind SyntheticList Text e = absurd (let z : ◌≡◌ {A = ℕ} 1 0 = e in omega arith)
+same_kind Text SyntheticList e = cc
+same_kind SyntheticList Text e = cc
 same_kind SyntheticList SyntheticList e = refl
-
--- equal lists have equal heads and equal tails
-heads : {A : Type 0} {x y : A} {xs ys : List A} → ◌≡◌ {A = List A} (x ∷ xs) (y ∷ ys) → x ≡ y
-heads e = cc
-
-tails : {A : Type 0} {x y : A} {xs ys : List A} → ◌≡◌ {A = List A} (x ∷ xs) (y ∷ ys) → xs ≡ ys
-tails e = cc
 
 same_entry : {j k : PayloadKind} {x y : Name} {p q : List ℕ} → j ≡ k → x ≡ y → p ≡ q → ◌≡◌ {A = Entry} (record { kind = j; key = x; payload = p }) (record { kind = k; key = y; payload = q })
 same_entry a b c = cc
 
 pub comes_apart : (d e : Entry) (r s : List ℕ) → Fits d → Fits e → encoded d ++ r ≡ encoded e ++ s → (d ≡ e) × (r ≡ s)
 comes_apart d e r s f g h =
-    let first : 64 * kind_number d.kind + length d.key ≡ 64 * kind_number e.kind + length e.key = heads h in
-    let high : length d.payload / 256 ≡ length e.payload / 256 = heads (tails h) in
-    let low : length d.payload % 256 ≡ length e.payload % 256 = heads (tails (tails h)) in
-    let rest : (d.key ++ d.payload) ++ r ≡ (e.key ++ e.payload) ++ s = tails (tails (tails h)) in
+    let first : 64 * kind_number d.kind + length d.key ≡ 64 * kind_number e.kind + length e.key = cc in
+    let high : length d.payload / 256 ≡ length e.payload / 256 = cc in
+    let low : length d.payload % 256 ≡ length e.payload % 256 = cc in
+    let rest : (d.key ++ d.payload) ++ r ≡ (e.key ++ e.payload) ++ s = cc in
     let a = f.key_fits in
     let b = g.key_fits in
     let kinds : kind_number d.kind ≡ kind_number e.kind = omega arith in

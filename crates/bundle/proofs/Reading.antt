@@ -41,7 +41,7 @@ inverts s r h = record { there = there r h; back = back r h }
         let same : fs ≡ es = cc in
         let f = h.1.means in
         (sym (ap (all_encoded format) same) ∙ sym (append-nil (all_encoded format fs)) ∙ f.all, sym (ap (well_formed format) same) ∙ f.well)
-    there (Err d) h es e = absurd (let z : ◌≡◌ {A = ℕ} 0 1 = cc in omega arith)
+    there (Err d) h es e = cc
 
     back : (r : Result (List Entry) Denial) → Reads s r → (es : List Entry) → all_encoded format es ≡ s → well_formed format es ≡ true → length s ≤ 65536 → (r ≡ Ok es) ⊎ ((d : Denial) × (r ≡ Err d) × IsOutOfMemory d)
     back (Ok fs) h es e w l =
@@ -50,4 +50,4 @@ inverts s r h = record { there = there r h; back = back r h }
         inl (ap Ok same)
     back (Err d) (inl m) es e w l = inr (d, refl, m)
     back (Err d) (inr (too_long n)) es e w l = absurd (omega arith)
-    back (Err d) (inr (stops why n m)) es e w l = absurd (let k = m.only (Ok es) (record { all = append-nil (all_encoded format es) ∙ e; well = w }) in let z : ◌≡◌ {A = ℕ} 0 1 = cc in omega arith)
+    back (Err d) (inr (stops why n m)) es e w l = let k = m.only (Ok es) (record { all = append-nil (all_encoded format es) ∙ e; well = w }) in cc

@@ -1,8 +1,7 @@
 -- Writing a bundle entry by entry.
-use Rattle.std.proofs.Common.{◌≡◌, ℕ, ◌+◌, ◌<◌, ◌≤◌, Bool, true, false, ◌⊎◌, List, [], ◌∷◌, ◌++◌, map, length, get_or, take, drop, Some, None, Ok, Err, Option, Result, sym, refl, ap, ◌∙◌, subst, inl, inr, append_assoc, append-nil, arith}
+use Rattle.std.proofs.Common.{◌≡◌, ℕ, ◌+◌, ◌<◌, ◌≤◌, Bool, true, false, ◌⊎◌, List, [], ◌∷◌, ◌++◌, map, length, get_or, take, drop, Some, None, Ok, Err, Result, sym, refl, ap, ◌∙◌, subst, inl, inr, append-nil, arith}
 use mathlib.Core.List.{Memᴰ}
 use lib.ListN.{length-map}
-use Rattle.std.specs.Option.{SomeIff}
 use Rattle.std.proofs.lemmas.List.{take_more, map-append, take-append-drop, drop_more}
 use Rattle.std.proofs.lemmas.Bool.{both_ways, cases_lt}
 use Rattle.names.specs.Names.{Name, among}
@@ -18,20 +17,6 @@ use Rattle.bundle.specs.declared.entry.Entry as code
 use Rattle.bundle.specs.Format.{Entry, encoded, good, format, plain, plain_all}
 use Rattle.bundle.specs.Bundles.{malformed_at, Refused, stops, too_long, Misplaced, FirstMisplaced, Unwritable, too_large, misplaced, Writes, Fits, RefusesAsReadingWould}
 use Rattle.bundle.proofs.Lawful.{lawful, good_fits, comes_apart}
-
--- a checked difference said otherwise
-pub checked_as : (o : Option ℕ) (P Q : Type 0) (v w : ℕ) → SomeIff o P v → (P → Q) → (Q → P) → v ≡ w → SomeIff o Q w
-checked_as None P Q v w h there back e = λ q. h (back q)
-checked_as (Some x) P Q v w h there back e = (there h.0, h.1 ∙ e)
-
-pub checked_none : (o : Option ℕ) (P : Type 0) (v : ℕ) → o ≡ None → ¬ P → SomeIff o P v
-checked_none None P v e n = n
-checked_none (Some x) P v e n = absurd (let z : ◌≡◌ {A = ℕ} 0 1 = cc in omega arith)
-
--- three parts written one behind another
-pub appended : (v0 v1 v2 v3 h k p : List ℕ) → v1 ≡ v0 ++ h → v2 ≡ v1 ++ k → v3 ≡ v2 ++ p → v3 ≡ v0 ++ (h ++ (k ++ p))
-appended v0 v1 v2 v3 h k p a b c =
-    c ∙ ap (λ v. v ++ p) (b ∙ ap (λ v. v ++ k) a) ∙ append_assoc (v0 ++ h) k p ∙ append_assoc v0 h (k ++ p)
 
 module _ (l : List code.Entry) where
   -- the first i entries
@@ -123,6 +108,6 @@ refuses_alike es r h d is memory fit = by r h is
     from x (misplaced {byte} short m) = let (why, s) = read_stops es byte m fit in stops why short (means_only format lawful (all_encoded format es) (Err (why, byte)) s)
 
     by : (r : Result (List ℕ) Denial) → Writes es r → r ≡ Err d → Refused (all_encoded format es) d
-    by (Ok s) h e = absurd (let z : ◌≡◌ {A = ℕ} 0 1 = cc in omega arith)
+    by (Ok s) h e = cc
     by (Err x) (inl m) e = absurd (memory (let same : x ≡ d = cc in sym (ap (λ y. y.cause) same) ∙ m))
     by (Err x) (inr u) e = from d (let same : x ≡ d = cc in subst (Unwritable es) same u)

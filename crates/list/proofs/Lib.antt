@@ -1,4 +1,4 @@
 pub mod Contents
-pub mod Entries
+pub mod Lawful
 pub mod Modules
 pub mod Reading

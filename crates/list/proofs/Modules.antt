@@ -4,23 +4,14 @@ use Rattle.std.proofs.lemmas.List.{append-nil, length-append}
 use Rattle.std.proofs.lemmas.Bool.{and_from, lt-ltb, le-leb}
 use Rattle.names.specs.Names as names
 use Rattle.names.specs.Names.{distinct, every}
-use Rattle.names.specs.Owned.{bytes_of}
-use Rattle.names.specs.declared.name.Name.{Name}
 use Rattle.entries.specs.Entries as entries
 use Rattle.entries.proofs.Unique as unique
 use Rattle.record.specs.Modules.{Declared, Local, Module, export_count, well_formed}
-use Rattle.record.specs.Plain.{local_export, cell_entry}
 use Rattle.list.specs.Lists.{Entry, encoded, list_format, cells_from, locals_from, module_of, HasCell, HasACellForEachEntry}
 use Rattle.list.specs.Modules.{with_entry}
 
-pub local_is : (n : Name) (x : names.Name) (cell i byte : ℕ) → bytes_of n ≡ x → cell ≡ i → local_export (record { export_name = n; cell = cell; byte = byte }) ≡ record { export_name = x; cell = i; byte = byte }
-local_is n x cell i byte p q = cc
-
-pub cell_is : (n : Name) (x : names.Name) (byte : ℕ) → bytes_of n ≡ x → cell_entry (record { name = n; byte = byte }) ≡ record { name = x; byte = byte }
-cell_is n x byte p = cc
-
 -- what two pushes make of a module
-pub one_more : (m : Module) (name : names.Name) (byte : ℕ) (ls : List Local) (cs : List Declared) → ls ≡ (with_entry m name byte).locals → cs ≡ (with_entry m name byte).cells → record { requests = m.requests; imports = m.imports; locals = ls; indirects = m.indirects; stars = m.stars; cells = cs } ≡ with_entry m name byte
+one_more : (m : Module) (name : names.Name) (byte : ℕ) (ls : List Local) (cs : List Declared) → ls ≡ (with_entry m name byte).locals → cs ≡ (with_entry m name byte).cells → record { requests = m.requests; imports = m.imports; locals = ls; indirects = m.indirects; stars = m.stars; cells = cs } ≡ with_entry m name byte
 one_more m name byte ls cs p q =
     ap (λ l. record { requests = m.requests; imports = m.imports; locals = l; indirects = m.indirects; stars = m.stars; cells = cs }) p
     ∙ ap (λ l. record { requests = m.requests; imports = m.imports; locals = (with_entry m name byte).locals; indirects = m.indirects; stars = m.stars; cells = l }) q

@@ -16,7 +16,7 @@ use Rattle.list.specs.declared.module.SyntheticModule.{SyntheticModule}
 use Rattle.list.specs.Lists.{Entry, list_format, value, values_of, module_of}
 use Rattle.list.specs.Modules.{with_entry}
 use Rattle.list.specs.Reading.{entry, content, load_fault, ReadsExactly}
-use Rattle.list.proofs.Entries.{lawful}
+use Rattle.list.proofs.Lawful.{lawful}
 use Rattle.list.proofs.Modules.{module_push, module_entries, module_well_formed}
 
 -- the entries as the statements have them

@@ -13,5 +13,5 @@ returns-then-is_too_long c =
     let h : IsOutOfMemory c.malformed.result ⊎ Unwritable es c.malformed.result = inr (subst (Unwritable es) (sym c.malformed.ensures) (too_large long)) in
     record { writes = h; refuses = refuses_alike es (Err c.malformed.result) h }
 
-pub returns : goal.returns
-returns c = record { writes = c.write_entries.ensures; refuses = refuses_alike (plain_all c.args.entries.now) (plain_written c.write_entries.result) c.write_entries.ensures }
+pub returns-clause-refuses : goal.returns-clause-refuses
+returns-clause-refuses c = refuses_alike (plain_all c.args.entries.now) (plain_written c.write_entries.result) c.write_entries.ensures

@@ -1,10 +1,7 @@
-use Rattle.std.proofs.Common.{◌≡◌, length, vec_items, sym, ap, ◌∙◌, inl, inr, arith}
-use Rattle.std.proofs.lemmas.List.{take_all}
+use Rattle.std.proofs.Common.{◌≡◌, length, vec_items, sym, ap, ◌∙◌, inl, inr}
 use Rattle.std.proofs.lemmas.Result.{err_from_is_err_and}
 use Rattle.entries.proofs.Errors.{mapped_err, mapped_ok}
-use Rattle.entries.specs.Entries.{all_encoded, well_formed}
 use Rattle.entries.specs.Seen.{seen}
-use Rattle.bundle.specs.Format.{format, plain_all}
 use Rattle.bundle.specs.Bundles.{malformed_at, denial}
 use Rattle.bundle.proofs.Writing.{unwritable_at, refused_place, well_more, names_more, written_more}
 use Rattle.bundle.proofs.writer.write_entries.Goals as goal
@@ -38,11 +35,3 @@ loop-e-preserved c =
       names_more l i _ c.loop-e-test.true inv.2 (seen c.loop-e.seen) inv.1 (seen c.add.new.self) c.in_ok-add.ensures,
       well_more l i _ c.loop-e-test.true inv.2 (seen c.loop-e.seen) inv.1 (sym c.is_well_formed.ensures ∙ c.if-not-is_well_formed.false) (rw kept at c.check.ensures),
     )
-
-pub returns : goal.returns
-returns c =
-    let inv = c.loop-e.invariant in
-    let l = c.args.entries.now in
-    let all = take_all c.loop-e.e-index l c.loop-e-test.false in
-    let is : vec_items c.loop-e.out ≡ all_encoded format (plain_all l) = inv.0 ∙ ap (λ r. all_encoded format (plain_all r)) all in
-    record { is = is; well = ap (λ r. well_formed format (plain_all r)) (sym all) ∙ inv.2; short = let n = ap length is in let s = c.requires in omega arith }
