@@ -6,7 +6,7 @@ use Rattle.record.specs.declared.denial.Cause.TheVariants.{MalformedBundle, OutO
 use Rattle.record.specs.declared.denial.Denial.{Denial}
 use Rattle.record.specs.Memory.{memory_denial}
 use Rattle.entries.specs.declared.fault.Fault.{Fault}
-use Rattle.entries.specs.declared.fault.Fault.TheVariants.{Stopped, OutOfMemory}
+use Rattle.entries.specs.declared.fault.Fault.TheVariants.{Stopped, OutOfMemory as NoMemory}
 use Rattle.entries.specs.declared.stop.Stop.{Stop}
 use Rattle.entries.specs.Entries.{all_encoded, well_formed, MeansOnly}
 use Rattle.bundle.specs.Format.{Entry, good, format}
@@ -18,7 +18,7 @@ malformed_at byte = record { cause = MalformedBundle; place = None; byte = byte 
 -- what a fault in reading is denied with
 abbrev pub denial : Fault → Denial
 denial (Stopped why byte) = malformed_at byte
-denial (OutOfMemory e) = memory_denial
+denial (NoMemory e) = memory_denial
 
 abbrev pub IsOutOfMemory : Denial → Type 0
 IsOutOfMemory d = d.cause ≡ OutOfMemory

@@ -30,7 +30,7 @@ impl From<PayloadKind> for u8 {
     }
 }
 
-// The kind that the top two bits of a byte give, as a number.
+// From the number that the top two bits of an entry's first byte are.
 impl TryFrom<u8> for PayloadKind {
     type Error = UnknownKind;
 

@@ -21,7 +21,7 @@ pub(crate) fn malformed(byte: usize) -> Denial
     }
 }
 
-// A function, since neither type is of this crate.
+// The denial of a fault: no `From`, since neither type is of this crate.
 pub(crate) fn denied(fault: Fault) -> Denial
     ensures { result ≡ denial fault }
 {
@@ -31,6 +31,7 @@ pub(crate) fn denied(fault: Fault) -> Denial
     }
 }
 
+// The entries without their bytes.
 fn unplaced<'a>(heap: Global, all: &[Placed<Entry<'a>>]) -> Result<Vec<Entry<'a>>, AllocError>
     ensures { IfOk result (λ v. v.items ≡ map (λ x. x.entry) all.now) }
 {

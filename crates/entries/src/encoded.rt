@@ -1,8 +1,9 @@
-// Entries of a format, as the code has them.
+// What the code has for the entries of a format.
 ghost use Rattle.std.specs.Prelude.{◌≡◌, ◌<◌, length, IfSome};
 ghost use Rattle.entries.specs.Entries.{Format};
 ghost use Rattle.entries.specs.Reading.{TakesFirst, first_contents};
 
+// An entry that can be read from bytes.
 pub trait Encoded<'a>: Copy {
     // What an entry is by its contents.
     ghost Contents: { Type 0 };

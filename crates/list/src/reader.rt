@@ -18,7 +18,7 @@ fn cause_of(why: Stop) -> Cause
     }
 }
 
-// A function, since neither type is of this crate.
+// The load fault of a fault in reading: no `From`, since neither type is of this crate.
 fn refused(fault: Fault) -> LoadFault
     ensures { result ≡ load_fault fault }
 {
