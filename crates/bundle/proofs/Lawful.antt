@@ -6,8 +6,8 @@ use Rattle.names.specs.Names.{Name, every}
 use Rattle.names.specs.Keys.{segment, parts, key}
 use Rattle.entries.specs.Entries.{LawfulFormat}
 use Rattle.entries.proofs.Fronts.{same_fronts}
-use Rattle.bundle.specs.declared.entry.PayloadKind.{PayloadKind}
-use Rattle.bundle.specs.declared.entry.PayloadKind.TheVariants.{Text, List as SyntheticList}
+use Rattle.bundle.specs.declared.kind.PayloadKind.{PayloadKind}
+use Rattle.bundle.specs.declared.kind.PayloadKind.TheVariants.{Text, List as SyntheticList}
 use Rattle.bundle.specs.Format.{Entry, kind_number, encoded, good, format}
 use Rattle.bundle.specs.Bundles.{Fits}
 

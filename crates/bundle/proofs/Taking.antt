@@ -5,8 +5,8 @@ use Rattle.std.specs.List.{IsSplitAt}
 use Rattle.std.proofs.lemmas.Bool.{and_from, lt-ltb, ltb-true, ltb-false}
 use Rattle.names.specs.Keys.{key}
 use Rattle.entries.specs.Reading.{TakesFirst}
-use Rattle.bundle.specs.declared.entry.PayloadKind.{PayloadKind}
-use Rattle.bundle.specs.declared.entry.PayloadKind.TheVariants.{Text, List as SyntheticList}
+use Rattle.bundle.specs.declared.kind.PayloadKind.{PayloadKind}
+use Rattle.bundle.specs.declared.kind.PayloadKind.TheVariants.{Text, List as SyntheticList}
 use Rattle.bundle.specs.Format.{kind_number, kind_of, format}
 
 -- the first byte by its kind and its key length

@@ -5,8 +5,8 @@ use Rattle.names.specs.Names.{Name}
 use Rattle.names.specs.Keys.{key}
 use Rattle.record.specs.declared.denial.Denial.{Denial}
 use Rattle.entries.specs.Entries.{Format}
-use Rattle.bundle.specs.declared.entry.PayloadKind.{PayloadKind}
-use Rattle.bundle.specs.declared.entry.PayloadKind.TheVariants.{Text, List as SyntheticList}
+use Rattle.bundle.specs.declared.kind.PayloadKind.{PayloadKind}
+use Rattle.bundle.specs.declared.kind.PayloadKind.TheVariants.{Text, List as SyntheticList}
 use Rattle.bundle.specs.declared.entry.Entry as code
 
 -- a module: what its payload is, its key, and its payload

@@ -1,49 +1,9 @@
 // The entries of a bundle: one for each module.
-ghost use Rattle.std.specs.Prelude.{◌≡◌, ◌*◌};
-ghost use Rattle.std.specs.Result.{result_ok};
-ghost use Rattle.bundle.specs.Format.{Entry as BundleEntry, kind_number, kind_of, format, plain};
+ghost use Rattle.bundle.specs.Format.{Entry as BundleEntry, format, plain};
 
+use crate::kind::PayloadKind;
 use entries::Encoded;
 use names::is_key;
-
-// What a payload is.
-#[derive(Clone, Copy)]
-pub enum PayloadKind {
-    // a module's source text
-    Text,
-    // a synthetic list
-    List,
-}
-
-// A number that is no kind of payloads.
-#[derive(Clone, Copy)]
-pub struct UnknownKind;
-
-impl From<PayloadKind> for u8 {
-    ghost from_gives = { λ kind n. n ≡ kind_number kind };
-
-    fn from(kind: PayloadKind) -> u8 {
-        match kind {
-            PayloadKind::Text => 0,
-            PayloadKind::List => 1,
-        }
-    }
-}
-
-// From the number that the top two bits of an entry's first byte are.
-impl TryFrom<u8> for PayloadKind {
-    type Error = UnknownKind;
-
-    ghost try_from_gives = { λ n r. result_ok r ≡ kind_of (64 * n) };
-
-    fn try_from(number: u8) -> Result<PayloadKind, UnknownKind> {
-        match number {
-            0 => Ok(PayloadKind::Text),
-            1 => Ok(PayloadKind::List),
-            _ => Err(UnknownKind),
-        }
-    }
-}
 
 // A module of a bundle: its key, and its payload.
 #[derive(Clone, Copy)]

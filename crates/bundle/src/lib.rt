@@ -2,9 +2,11 @@
 #![tactic(auto)]
 
 mod entry;
+mod kind;
 mod reader;
 mod writer;
 
-pub use entry::{Entry, PayloadKind, UnknownKind};
+pub use entry::Entry;
+pub use kind::{PayloadKind, UnknownKind};
 pub use reader::read;
 pub use writer::write;

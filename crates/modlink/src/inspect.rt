@@ -1,5 +1,4 @@
 // What a bundle holds, line by line.
-use crate::kind::word_of;
 use anyhow::{anyhow, bail};
 use bundle::{Entry, PayloadKind};
 use names::Shown;
@@ -22,7 +21,7 @@ fn show_module(rt: &HostRuntime, place: usize, entry: &Entry<'_>) -> anyhow::Res
     println!(rt;
         "{place} {} {} {} bytes",
         Shown(entry.key),
-        word_of(entry.kind),
+        entry.kind,
         entry.payload.len()
     )?;
     match entry.kind {

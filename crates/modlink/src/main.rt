@@ -2,7 +2,6 @@
 #![tactic(auto)]
 
 mod inspect;
-mod kind;
 mod pack;
 mod sample;
 

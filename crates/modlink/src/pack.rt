@@ -1,6 +1,5 @@
 // Bundles from files.
 use crate::inspect::read_file;
-use crate::kind::kind_named;
 use anyhow::{anyhow, bail};
 use bundle::{Entry, PayloadKind};
 use std::fs;
@@ -31,9 +30,7 @@ fn load(rt: &HostRuntime, words: &[String]) -> anyhow::Result<Packed> {
     let [kind, key, file] = words else {
         bail!(USAGE);
     };
-    let Some(kind) = kind_named(kind.as_str()) else {
-        bail!(USAGE);
-    };
+    let kind = kind.parse().map_err(|_| anyhow!(USAGE))?;
     let payload = read_file(rt, file.as_str())?;
     let key = key.clone()?;
     Ok(Packed { kind, key, payload })

@@ -1,8 +1,8 @@
 -- The words for the kinds of payloads, as they are read and printed.
 use Rattle.std.specs.Prelude.{◌≡◌, Some, codes, Option}
 use Rattle.names.specs.Names.{Name}
-use Rattle.bundle.specs.declared.entry.PayloadKind.{PayloadKind}
-use Rattle.bundle.specs.declared.entry.PayloadKind.TheVariants.{Text, List}
+use Rattle.bundle.specs.declared.kind.PayloadKind.{PayloadKind}
+use Rattle.bundle.specs.declared.kind.PayloadKind.TheVariants.{Text, List}
 
 abbrev pub kind_word : PayloadKind → Name
 kind_word Text = codes "text"
