@@ -3,7 +3,7 @@ ghost use Rattle.std.specs.Prelude.{◌≡◌, alloc_error};
 ghost use Rattle.entries.specs.declared.fault.Fault.TheVariants.{Stopped, OutOfMemory};
 
 use crate::stop::Stop;
-use std::alloc::{AllocError, AllocFailed};
+use std::alloc::AllocError;
 
 #[derive(Clone, Copy)]
 pub enum Fault {
@@ -21,18 +21,10 @@ impl Stop {
     }
 }
 
-impl From<AllocError> for Fault {
-    ghost from_gives = { λ e r. r ≡ OutOfMemory e };
-
-    fn from(e: AllocError) -> Fault {
-        Fault::OutOfMemory(e)
-    }
-}
-
-impl<T: Drop> From<AllocFailed<T>> for Fault {
+impl<E: Into<AllocError>> From<E> for Fault {
     ghost from_gives = { λ _ r. r ≡ OutOfMemory alloc_error };
 
-    fn from(e: AllocFailed<T>) -> Fault {
-        Fault::OutOfMemory(AllocError::from(e))
+    fn from(e: E) -> Fault {
+        Fault::OutOfMemory(e.into())
     }
 }

@@ -15,7 +15,7 @@ fn is_misplaced(before: &[&[u8]], name: &[u8]) -> bool
     before.len() >= MAX_KEYS || !is_key(name) || before.contains(&name)
 }
 
-// The number of the first such name, if there is one.
+// The number of the first such name, if there is one: an answer as `position` gives it, and no refusal before its caller makes one of it.
 pub(crate) fn first_misplaced(keys: &[&[u8]]) -> Option<usize>
     ensures { MatchOption result (holdable (all_now keys.now) ≡ true) (FirstMisplaced (all_now keys.now)) }
 {

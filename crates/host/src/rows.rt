@@ -17,7 +17,7 @@ fn is_bad_behind(before: &[Row<'_>], row: &Row<'_>) -> bool
     before.len() >= MAX_ROWS || !row.is_good()
 }
 
-// The number of the first such row, if there is one.
+// The number of the first such row, if there is one. A function beside `first_misplaced`: one for both would take the test as a closure, and each is but one call of `find`.
 pub(crate) fn first_bad_row(rows: &[Row<'_>]) -> Option<usize>
     ensures { MatchOption result (good_rows (plain_all rows.now) ≡ true) (FirstBadRow (plain_all rows.now)) }
 {

@@ -7,7 +7,8 @@ pub enum Token<'a> {
     Text(&'a [u8]),
     Number(&'a [u8]),
     Mark(u8),
-    // no token begins like this, or it does not end as it should
+    // no token begins like this, or it does not end as it should: a token and no error, since the grammar takes it as it takes
+    // any token that may not stand where it does
     Malformed,
     // the text's end
     End,

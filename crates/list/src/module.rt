@@ -11,6 +11,7 @@ use record::{CellEntry, LocalExport, Record, Value};
 use std::alloc::{AllocError, Global};
 
 // A module whose cells take given values: its record, and the value of each cell.
+// The values stand beside the record's cells and not in them: a record is the same for every kind of modules.
 #[derive(Drop)]
 pub struct SyntheticModule {
     pub record: Record,

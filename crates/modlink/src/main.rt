@@ -20,6 +20,7 @@ fn arguments(rt: &HostRuntime) -> anyhow::Result<Vec<String>> {
 }
 
 fn perform(rt: &HostRuntime, command: &str, rest: &[String]) -> anyhow::Result<()> {
+    // A `match`, since the commands are few and each is one call; a table would have to hold functions.
     match command {
         "help" | "--help" | "-h" => println!(rt; "{HELP}")?,
         "inspect" => inspect::inspect_file(rt, rest)?,

@@ -6,6 +6,7 @@ ghost use Rattle.names.specs.Owned.{bytes_of};
 use std::alloc::{AllocError, Global};
 use std::fmt;
 
+// By this name and not by `==`, which does not compare bytes with a byte string as it is written.
 pub fn same_name(a: &[u8], b: &[u8]) -> bool
     ensures { result ≡ bytes_eq a.now b.now }
 {

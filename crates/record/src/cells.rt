@@ -4,6 +4,7 @@ ghost use Rattle.record.specs.Cells.{blank, held, stored, Square};
 
 use crate::value::{Cell, Value};
 
+// An array, since no call on cells allocates.
 #[derive(Drop)]
 pub struct Cells {
     rows: [[Cell; 32]; 32],

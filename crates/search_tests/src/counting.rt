@@ -16,6 +16,7 @@ pub enum Stage {
     Counted,
 }
 
+/// Two arrays and not one of pairs: the counts alone are what the search is asked for.
 #[derive(Drop)]
 pub struct Counting {
     pub stages: [Stage; 32],
