@@ -22,7 +22,7 @@ pub enum Form<'a> {
     Reexports(Vec<Entry<'a>>, Spelt<'a>),
     // the byte of the `*`
     Star(usize, Spelt<'a>),
-    // exported or not
+    // exported or not: a flag and no `Option`, since the name is there in both
     Declares(bool, Spelt<'a>),
     Throws,
 }

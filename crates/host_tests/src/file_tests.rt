@@ -20,9 +20,7 @@ fn all_lead(
 #[test]
 fn paths_are_followed(rt: HostRuntime) -> Result<(), Fail> {
     let keys: [&[u8]; 4] = [b"a/b", b"a/c/d", b"a", b"e"];
-    let Ok(host) = FileHost::new(rt.alloc(), &keys) else {
-        return Err(Fail::new("not made"));
-    };
+    let host = FileHost::new(rt.alloc(), &keys).ok().ok_or("not made")?;
     assert_eq!(rt; host.seek(b"a/c/d"), Some(1));
     assert_eq!(rt; host.seek(b"a/c"), None);
     all_lead(&rt, &host, 0, &[b"./c/d", b"../a/c/d"], Some(1));
@@ -42,9 +40,7 @@ fn paths_are_followed(rt: HostRuntime) -> Result<(), Fail> {
 #[test]
 fn other_specifiers_lead_nowhere(rt: HostRuntime) -> Result<(), Fail> {
     let keys: [&[u8]; 3] = [b"a/b", b"a", b"e"];
-    let Ok(host) = FileHost::new(rt.alloc(), &keys) else {
-        return Err(Fail::new("not made"));
-    };
+    let host = FileHost::new(rt.alloc(), &keys).ok().ok_or("not made")?;
     all_lead(
         &rt,
         &host,

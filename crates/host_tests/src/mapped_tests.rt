@@ -22,9 +22,9 @@ fn equal_targets_join_and_different_ones_do_not(rt: HostRuntime) -> Result<(), F
         row(b"b", b"x", b"a"),
         row(b"b", b"z", b"c"),
     ];
-    let Ok(host) = MappedHost::new(rt.alloc(), &keys, &rows) else {
-        return Err(Fail::new("not made"));
-    };
+    let host = MappedHost::new(rt.alloc(), &keys, &rows)
+        .ok()
+        .ok_or("not made")?;
     assert_eq!(rt; host.seek(b"b"), Some(1));
     assert_eq!(rt; host.follow(0, b"x"), Some(1));
     assert_eq!(rt; host.follow(1, b"x"), Some(0));

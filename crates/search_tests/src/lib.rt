@@ -53,9 +53,7 @@ mod tests {
 
     #[test]
     fn each_node_is_counted_once(rt: HostRuntime) -> Result<(), Fail> {
-        let Some(root) = Node::new(0) else {
-            return Err(Fail::new("no node 0"));
-        };
+        let root = Node::new(0).ok_or("no node 0")?;
         let counts = count(root);
         assert!(rt; counts[0] == 1 && counts[3] == 1);
         assert!(rt; counts[5] == 1 && counts[6] == 0);
@@ -64,9 +62,7 @@ mod tests {
 
     #[test]
     fn what_is_counted_is_not_counted_again(rt: HostRuntime) -> Result<(), Fail> {
-        let Some(root) = Node::new(4) else {
-            return Err(Fail::new("no node 4"));
-        };
+        let root = Node::new(4).ok_or("no node 4")?;
         let mut walk = Counting {
             stages: [Stage::Counted; 32],
             counts: [7; 32],
@@ -80,16 +76,10 @@ mod tests {
     #[test]
     fn a_failure_leaves_its_cycle_open(rt: HostRuntime) -> Result<(), Fail> {
         let mut marks = [Mark::Fresh; 32];
-        let Some(root) = Node::new(0) else {
-            return Err(Fail::new("no node 0"));
-        };
-        let Some(at) = Node::new(3) else {
-            return Err(Fail::new("no node 3"));
-        };
-        match fail(&mut marks, at, root) {
-            Ok(()) => return Err(Fail::new("no failure")),
-            Err(failed) => assert!(rt; failed.at == 3),
-        }
+        let root = Node::new(0).ok_or("no node 0")?;
+        let at = Node::new(3).ok_or("no node 3")?;
+        let failed = fail(&mut marks, at, root).err().ok_or("no failure")?;
+        assert!(rt; failed.at == 3);
         assert!(rt; marks[0] == Mark::Open && marks[3] == Mark::Open);
         assert!(rt; marks[5] == Mark::Closed && marks[6] == Mark::Fresh);
         Ok(())
@@ -99,16 +89,10 @@ mod tests {
     fn a_spoilt_node_hands_its_failure_on(rt: HostRuntime) -> Result<(), Fail> {
         let mut marks = [Mark::Fresh; 32];
         marks[3] = Mark::Spoilt;
-        let Some(root) = Node::new(1) else {
-            return Err(Fail::new("no node 1"));
-        };
-        let Some(at) = Node::new(3) else {
-            return Err(Fail::new("no node 3"));
-        };
-        match fail(&mut marks, at, root) {
-            Ok(()) => return Err(Fail::new("no failure")),
-            Err(failed) => assert!(rt; failed.at == 3),
-        }
+        let root = Node::new(1).ok_or("no node 1")?;
+        let at = Node::new(3).ok_or("no node 3")?;
+        let failed = fail(&mut marks, at, root).err().ok_or("no failure")?;
+        assert!(rt; failed.at == 3);
         assert!(rt; marks[2] == Mark::Open && marks[3] == Mark::Spoilt);
         Ok(())
     }
