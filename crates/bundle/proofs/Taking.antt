@@ -1,13 +1,25 @@
 -- Taking the first entry from a byte string.
-use Rattle.std.proofs.Common.{◌≡◌, ℕ, ◌+◌, ◌*◌, ◌/◌, ◌%◌, ◌<◌, Bool, true, false, cond, ltb, List, [], ◌∷◌, ◌++◌, length, get_or, take, drop, Some, None, refl, ap, ◌∙◌, append_assoc, arith, take-append-drop}
+use Rattle.std.proofs.Common.{◌≡◌, ℕ, ◌+◌, ◌*◌, ◌/◌, ◌%◌, ◌<◌, Bool, true, false, cond, ltb, List, [], ◌∷◌, ◌++◌, length, get_or, take, drop, Some, None, sym, refl, ap, ◌∙◌, append_assoc, arith, take-append-drop}
 use native.Mathlib.Nat.{div-add-mod}
 use Rattle.std.specs.List.{IsSplitAt}
-use Rattle.std.proofs.lemmas.Bool.{and_from, lt-ltb, ltb-true, ltb-false}
+use Rattle.std.proofs.lemmas.List.{take_at}
+use Rattle.std.proofs.lemmas.Bool.{both_ways, and_parts, and_from, lt-ltb, ltb-true, ltb-false}
 use Rattle.names.specs.Keys.{key}
+use Rattle.entries.specs.Entries.{Begins}
 use Rattle.entries.specs.Reading.{TakesFirst}
 use Rattle.bundle.specs.declared.kind.PayloadKind.{PayloadKind}
 use Rattle.bundle.specs.declared.kind.PayloadKind.TheVariants.{Text, List as SyntheticList}
 use Rattle.bundle.specs.Format.{kind_number, kind_of, format}
+use Rattle.bundle.proofs.Lawful.{good_fits}
+
+-- where the key is none, no well-formed entry begins
+pub no_key : (s front behind : List ℕ) → front ≡ take 3 s → behind ≡ drop 3 s → (x more : List ℕ) (m : ℕ) → m ≡ get_or front 0 0 % 64 → IsSplitAt behind m x more → key x ≡ false → ¬ Begins format s
+no_key s front behind e f x more m is_m p w b =
+    let head : get_or front 0 0 ≡ 64 * kind_number b.entry.kind + length b.entry.key = ap (λ l. get_or l 0 0) (e ∙ ap (take 3) (sym b.is)) in
+    let size : length b.entry.key ≡ m = omega (arith, (good_fits b.entry b.well).key_fits, div-add-mod (get_or front 0 0) 64) in
+    let rest : behind ≡ b.entry.key ++ (b.entry.payload ++ b.rest) = f ∙ ap (drop 3) (sym b.is) ∙ append_assoc b.entry.key b.entry.payload b.rest in
+    let same : x ≡ b.entry.key = p.1 ∙ ap (take m) rest ∙ take_at b.entry.key (b.entry.payload ++ b.rest) m size in
+    both_ways (key b.entry.key) (sym (ap key same) ∙ w) (and_parts (key b.entry.key) _ b.well).0
 
 -- the first byte by its kind and its key length
 head_byte : (h : ℕ) (k : PayloadKind) → Some k ≡ kind_of (64 * (h / 64)) → 64 * kind_number k + h % 64 ≡ h

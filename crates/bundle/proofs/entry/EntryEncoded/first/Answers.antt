@@ -1,6 +1,12 @@
 use Rattle.std.proofs.Common.{sym, ◌∙◌}
-use Rattle.bundle.proofs.Taking.{taken}
+use Rattle.bundle.proofs.Taking.{no_key, taken}
 use Rattle.bundle.proofs.entry.EntryEncoded.first.Goals as goal
+
+pub returns-then-not-is_key-clause-takes : goal.returns-then-not-is_key-clause-takes
+returns-then-not-is_key-clause-takes c =
+    let front = c.in_ok-head.ensures.cases in
+    no_key c.args.bytes.now c.in_ok-head.field-0-0.now c.in_ok-head.behind.now front.0 front.1 c.in_ok-key.key.now c.in_ok-key.behind.now
+    c.from.result c.from.ensures c.in_ok-key.ensures.cases (sym c.is_key.ensures.value ∙ c.if-not-is_key.true)
 
 pub returns-clause-takes : goal.returns-clause-takes
 returns-clause-takes c =
