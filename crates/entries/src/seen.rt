@@ -10,6 +10,7 @@ use std::alloc::{AllocError, Global};
 // How many entries there may be.
 const MOST: usize = 32;
 
+// A list beside that of the entries, since a writer keeps no other.
 #[derive(Drop)]
 pub struct Seen<'a> {
     names: Vec<&'a [u8]>,
