@@ -15,7 +15,8 @@ use Rattle.entries.proofs.Seeing.{RefusedFor, refused_since, passed_since}
 use Rattle.entries.proofs.Unique.{all_encoded_append, parts, well_formed_more, means_only}
 use Rattle.bundle.specs.declared.entry.Entry as code
 use Rattle.bundle.specs.Format.{Entry, encoded, good, format, plain, plain_all}
-use Rattle.bundle.specs.Bundles.{malformed_at, Refused, stops, too_long, Misplaced, FirstMisplaced, Unwritable, too_large, misplaced, Writes, Fits, RefusesAsReadingWould}
+use Rattle.record.specs.Denials.{malformed_at}
+use Rattle.bundle.specs.Bundles.{Refused, stops, too_long, Misplaced, FirstMisplaced, Unwritable, too_large, misplaced, Writes, Fits, RefusesAsReadingWould}
 use Rattle.bundle.proofs.Lawful.{lawful, good_fits, comes_apart}
 
 module _ (l : List code.Entry) where

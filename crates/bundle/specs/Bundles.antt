@@ -4,16 +4,13 @@ use mathlib.Core.List.{Memᴰ}
 use Rattle.names.specs.Names.{among}
 use Rattle.record.specs.declared.denial.Cause.TheVariants.{MalformedBundle, OutOfMemory}
 use Rattle.record.specs.declared.denial.Denial.{Denial}
+use Rattle.record.specs.Denials.{malformed_at}
 use Rattle.record.specs.Memory.{memory_denial}
 use Rattle.entries.specs.declared.fault.Fault.{Fault}
 use Rattle.entries.specs.declared.fault.Fault.TheVariants.{Stopped, OutOfMemory as NoMemory}
 use Rattle.entries.specs.declared.stop.Stop.{Stop}
 use Rattle.entries.specs.Entries.{all_encoded, well_formed, MeansOnly}
 use Rattle.bundle.specs.Format.{Entry, good, format}
-
--- the denial of a bundle at a byte; it names no place
-abbrev pub malformed_at : ℕ → Denial
-malformed_at byte = record { cause = MalformedBundle; place = None; byte = byte }
 
 -- what a fault in reading is denied with
 abbrev pub denial : Fault → Denial

@@ -1,7 +1,8 @@
 // Reading a bundle.
 ghost use Rattle.std.specs.Prelude.{◌≡◌, map, IfOk};
 ghost use Rattle.bundle.specs.Format.{plain_read};
-ghost use Rattle.bundle.specs.Bundles.{malformed_at, denial, Reads, InvertsWriting};
+ghost use Rattle.record.specs.Denials.{malformed_at};
+ghost use Rattle.bundle.specs.Bundles.{denial, Reads, InvertsWriting};
 
 use crate::entry::Entry;
 use entries::{Fault, Placed};
@@ -11,22 +12,12 @@ use std::alloc::{AllocError, Global};
 // How many bytes a bundle has at most.
 pub(crate) const LONGEST: usize = 65536;
 
-pub(crate) fn malformed(byte: usize) -> Denial
-    ensures { result ≡ malformed_at byte }
-{
-    Denial {
-        cause: Cause::MalformedBundle,
-        place: None,
-        byte,
-    }
-}
-
 // The denial of a fault: no `From`, since neither type is of this crate.
 pub(crate) fn denied(fault: Fault) -> Denial
     ensures { result ≡ denial fault }
 {
     match fault {
-        Fault::Stopped { byte, .. } => malformed(byte),
+        Fault::Stopped { byte, .. } => Denial::malformed(byte),
         Fault::OutOfMemory(e) => Denial::from(e),
     }
 }
@@ -44,7 +35,7 @@ pub fn read<'a>(heap: Global, bytes: &'a [u8]) -> Result<Vec<Entry<'a>>, Denial>
     ensures inverts { InvertsWriting bytes.now (plain_read result) }
 {
     if bytes.len() > LONGEST {
-        return Err(malformed(LONGEST));
+        return Err(Denial::malformed(LONGEST));
     }
     let all = entries::read::<Entry<'a>>(heap, bytes).map_err(denied)?;
     Ok(unplaced(heap, &all)?)

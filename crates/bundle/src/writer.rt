@@ -6,7 +6,7 @@ ghost use Rattle.bundle.specs.Format.{head_bytes, encoded, good, format, plain, 
 ghost use Rattle.bundle.specs.Bundles.{Writes, RefusesAsReadingWould};
 
 use crate::entry::Entry;
-use crate::reader::{LONGEST, denied, malformed};
+use crate::reader::{LONGEST, denied};
 use entries::Seen;
 use names::is_key;
 use record::Denial;
@@ -62,7 +62,7 @@ fn write_entries(heap: Global, entries: &[Entry<'_>]) -> Result<Vec<u8>, Denial>
     let mut seen = Seen::new(heap);
     for e in entries {
         if !is_well_formed(e) {
-            return Err(malformed(out.len()));
+            return Err(Denial::malformed(out.len()));
         }
         seen.check(e.key, out.len()).map_err(denied)?;
         seen.add(e.key)?;
@@ -77,7 +77,7 @@ pub fn write(heap: Global, entries: &[Entry<'_>]) -> Result<Vec<u8>, Denial>
     ensures refuses { RefusesAsReadingWould (plain_all entries.now) (plain_written result) }
 {
     if is_too_long(entries) {
-        return Err(malformed(LONGEST));
+        return Err(Denial::malformed(LONGEST));
     }
     write_entries(heap, entries)
 }

@@ -7,6 +7,7 @@ use Rattle.names.specs.Names.{Name, among, distinct, every}
 use Rattle.names.specs.Keys.{key}
 use Rattle.record.specs.declared.denial.Cause.TheVariants.{MalformedBundle}
 use Rattle.record.specs.declared.denial.Denial.{Denial}
+use Rattle.record.specs.Denials.{malformed_at}
 use Rattle.record.specs.Memory.{memory_denial}
 
 -- the place of a key, if it is held
@@ -20,10 +21,6 @@ holdable ks = every key ks && (distinct ks && nat_le (length ks) 32)
 -- borrowed names, by their bytes
 abbrev pub all_now : List (Bor (List ℕ)) → List Name
 all_now rs = map (λ r. r.now) rs
-
--- the denial of keys or rows, at the number of one of them; it names no place
-abbrev pub refused_at : ℕ → Denial
-refused_at n = record { cause = MalformedBundle; place = None; byte = n }
 
 -- whether a name may not stand behind others: they are 32, or it is no key, or it is one of them
 abbrev pub misplaced : List Name → Name → Bool
@@ -49,7 +46,7 @@ Holds ks held = (held ≡ ks) × (holdable ks ≡ true)
 
 -- and are else refused at the number of the first that is misplaced, or there is no memory
 abbrev pub RefusesKeys : List Name → Denial → Type 0
-RefusesKeys ks d = (d ≡ memory_denial) ⊎ ((n : ℕ) × (d ≡ refused_at n) × FirstMisplaced ks n)
+RefusesKeys ks d = (d ≡ memory_denial) ⊎ ((n : ℕ) × (d ≡ malformed_at n) × FirstMisplaced ks n)
 
 -- each key given has its number as its place
 abbrev pub EachKeyHasItsNumberAsItsPlace : List Name → (Name → Option ℕ) → Type 0

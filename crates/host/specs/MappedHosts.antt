@@ -12,7 +12,8 @@ use Rattle.outcome.specs.Joining.{joined_all, SameMembers}
 use Rattle.record.specs.declared.denial.Denial.{Denial}
 use Rattle.record.specs.Meanings.{Hosting}
 use Rattle.record.specs.Memory.{memory_denial}
-use Rattle.host.specs.Holding.{place_of, holdable, refused_at, FirstBad, FirstMisplaced}
+use Rattle.record.specs.Denials.{malformed_at}
+use Rattle.host.specs.Holding.{place_of, holdable, FirstBad, FirstMisplaced}
 use Rattle.host.specs.declared.row.Row as code
 
 -- in the module with this key, the specifier leads to that key
@@ -92,5 +93,5 @@ pub record Maps (ks : List Name) (rows : List Row) (held : List Name) (kept : Li
 -- else the first misplaced key is refused, or if all keys can be held the first bad row, by its number; or there is no memory
 pub data RefusesToMap (ks : List Name) (rows : List Row) : Denial → Type 0 where
   no_memory : RefusesToMap ks rows memory_denial
-  bad_key : {n : ℕ} → FirstMisplaced ks n → RefusesToMap ks rows (refused_at n)
-  bad_row : {n : ℕ} → holdable ks ≡ true → FirstBadRow rows n → RefusesToMap ks rows (refused_at n)
+  bad_key : {n : ℕ} → FirstMisplaced ks n → RefusesToMap ks rows (malformed_at n)
+  bad_row : {n : ℕ} → holdable ks ≡ true → FirstBadRow rows n → RefusesToMap ks rows (malformed_at n)

@@ -4,7 +4,7 @@ ghost use Rattle.std.specs.List.{slice_get};
 ghost use Rattle.std.specs.Option.{option_map};
 ghost use Rattle.host.specs.Holding.{all_now, place_of, holdable, Holds, RefusesKeys};
 
-use crate::misplaced::{first_misplaced, refused};
+use crate::misplaced::first_misplaced;
 use record::Denial;
 use std::alloc::Global;
 
@@ -21,7 +21,7 @@ impl<'a> Keys<'a> {
         ensures { MatchResult result (λ k. Holds (all_now keys.now) (all_now k.names.items)) (RefusesKeys (all_now keys.now)) }
     {
         if let Some(n) = first_misplaced(keys) {
-            return Err(refused(n));
+            return Err(Denial::malformed(n));
         }
         let names = Vec::from_slice(heap, keys)?;
         Ok(Keys { names })

@@ -5,7 +5,6 @@ ghost use Rattle.host.specs.MappedHosts.{plain_all, mapped_hosting, Maps, Refuse
 ghost use Rattle.host.specs.Lawful.{mapped_hosting_lawful};
 
 use crate::keys::Keys;
-use crate::misplaced::refused;
 use crate::row::Row;
 use crate::rows::{first_bad_row, said_by_all};
 use outcome::Outcome;
@@ -28,7 +27,7 @@ impl<'a> MappedHost<'a> {
     {
         let keys = Keys::new(heap, keys)?;
         if let Some(n) = first_bad_row(rows) {
-            return Err(refused(n));
+            return Err(Denial::malformed(n));
         }
         let rows = Vec::from_slice(heap, rows)?;
         Ok(MappedHost { keys, rows })

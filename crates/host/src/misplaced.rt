@@ -1,9 +1,8 @@
 // Which keys a host can hold.
 ghost use Rattle.std.specs.Prelude.{◌≡◌, true, MatchOption};
-ghost use Rattle.host.specs.Holding.{all_now, holdable, misplaced, FirstMisplaced, refused_at};
+ghost use Rattle.host.specs.Holding.{all_now, holdable, misplaced, FirstMisplaced};
 
 use names::is_key;
-use record::{Cause, Denial};
 
 // A host holds at most so many keys.
 const MAX_KEYS: usize = 32;
@@ -20,15 +19,4 @@ pub(crate) fn first_misplaced(keys: &[&[u8]]) -> Option<usize>
     ensures { MatchOption result (holdable (all_now keys.now) ≡ true) (FirstMisplaced (all_now keys.now)) }
 {
     (0..keys.len()).find(|i| is_misplaced(&keys[..*i], keys[*i]))
-}
-
-// The denial of keys or rows at the number of one of them.
-pub(crate) fn refused(number: usize) -> Denial
-    ensures { result ≡ refused_at number }
-{
-    Denial {
-        cause: Cause::MalformedBundle,
-        place: None,
-        byte: number,
-    }
 }

@@ -1,6 +1,6 @@
 // Denials: which cause, at which place, at which byte.
 ghost use Rattle.std.specs.Prelude.{◌≡◌, Some};
-ghost use Rattle.record.specs.Denials.{number};
+ghost use Rattle.record.specs.Denials.{number, malformed_at};
 ghost use Rattle.record.specs.declared.denial.Denial.{Denial};
 
 use crate::value::FaultCause;
@@ -72,6 +72,19 @@ pub struct Denial {
     pub cause: Cause,
     pub place: Option<usize>,
     pub byte: usize,
+}
+
+impl Denial {
+    // Of a bundle, or of a host's keys or rows, at this byte or number.
+    pub fn malformed(byte: usize) -> Denial
+        ensures { result ≡ malformed_at byte }
+    {
+        Denial {
+            cause: Cause::MalformedBundle,
+            place: None,
+            byte,
+        }
+    }
 }
 
 // What a payload is refused with, before it is known at which place it stands.

@@ -2,7 +2,8 @@ use Rattle.std.proofs.Common.{◌≡◌, length, vec_items, sym, ap, ◌∙◌, 
 use Rattle.std.proofs.lemmas.Result.{err_from_is_err_and}
 use Rattle.entries.proofs.Errors.{mapped_err, mapped_ok}
 use Rattle.entries.specs.Seen.{seen}
-use Rattle.bundle.specs.Bundles.{malformed_at, denial}
+use Rattle.record.specs.Denials.{malformed_at}
+use Rattle.bundle.specs.Bundles.{denial}
 use Rattle.bundle.proofs.Writing.{unwritable_at, refused_place, well_more, names_more, written_more}
 use Rattle.bundle.proofs.writer.write_entries.Goals as goal
 

@@ -13,7 +13,7 @@ returns-in_err-keys-clause-makes c =
     rw (p.1, p.2) (keys_refused (all_now c.args.keys.now) (plain_all c.args.rows.now) c.in_err-keys.field-0.0 c.in_err-keys.ensures)
 
 pub returns-in-Some-clause-makes : goal.returns-in-Some-clause-makes
-returns-in-Some-clause-makes c = subst (RefusesToMap (all_now c.args.keys.now) (plain_all c.args.rows.now)) (sym c.refused.ensures) (bad_row c.in_ok-keys.ensures.1 c.in-Some.ensures)
+returns-in-Some-clause-makes c = subst (RefusesToMap (all_now c.args.keys.now) (plain_all c.args.rows.now)) (sym c.malformed.ensures) (bad_row c.in_ok-keys.ensures.1 c.in-Some.ensures)
 
 pub returns-in_err-rows-clause-makes : goal.returns-in_err-rows-clause-makes
 returns-in_err-rows-clause-makes c =
