@@ -1,5 +1,5 @@
 -- A bundle comes apart in one way.
-use Rattle.std.proofs.Common.{◌≡◌, ℕ, suc, ◌+◌, ◌*◌, ◌/◌, ◌%◌, ◌<◌, true, ltb, leb, List, ◌++◌, length, sym, refl, ◌∙◌, append_assoc, arith}
+use Rattle.std.proofs.Common.{◌≡◌, ℕ, suc, ◌+◌, ◌*◌, ◌/◌, ◌%◌, true, ltb, leb, List, ◌++◌, length, sym, refl, ◌∙◌, append_assoc, arith}
 use native.Mathlib.Nat.{div-add-mod}
 use Rattle.std.proofs.lemmas.Bool.{and_parts, ltb-true, leb-true}
 use Rattle.names.specs.Names.{Name, every}
@@ -17,10 +17,6 @@ good_fits e g =
     let q = and_parts (leb (length e.key) 63) (every segment (parts e.key)) p.0 in
     let l = leb-true (length e.key) 63 q.0 in
     record { key_fits = omega arith; payload_fits = ltb-true (length e.payload) 65536 p.1 }
-
-pub kind_below : (k : PayloadKind) → kind_number k < 2
-kind_below Text = omega arith
-kind_below SyntheticList = omega arith
 
 same_kind : (j k : PayloadKind) → kind_number j ≡ kind_number k → j ≡ k
 same_kind Text Text e = refl

@@ -1,4 +1,4 @@
--- Reading a bundle entry by entry.
+-- From entries that were read to a bundle.
 use Rattle.std.proofs.Common.{◌≡◌, ℕ, ◌≤◌, true, ◌⊎◌, List, [], ◌∷◌, map, length, Ok, Err, Result, Vec, vec_items, sym, refl, ap, ◌∙◌, inl, inr, append-nil, arith}
 use Rattle.record.specs.declared.denial.Denial.{Denial}
 use Rattle.std.specs.declared.alloc.Global.{Global}

@@ -1,8 +1,8 @@
 -- What reading and writing a bundle answer.
-use Rattle.std.specs.Prelude.{◌≡◌, ℕ, ◌<◌, ◌≤◌, true, false, ◌⊎◌, List, ◌∷◌, ◌++◌, map, length, None, Ok, Err, Result}
+use Rattle.std.specs.Prelude.{◌≡◌, ℕ, ◌<◌, ◌≤◌, true, false, ◌⊎◌, List, ◌∷◌, ◌++◌, map, length, Ok, Err, Result}
 use mathlib.Core.List.{Memᴰ}
 use Rattle.names.specs.Names.{among}
-use Rattle.record.specs.declared.denial.Cause.TheVariants.{MalformedBundle, OutOfMemory}
+use Rattle.record.specs.declared.denial.Cause.TheVariants.{OutOfMemory}
 use Rattle.record.specs.declared.denial.Denial.{Denial}
 use Rattle.record.specs.Denials.{malformed_at}
 use Rattle.record.specs.Memory.{memory_denial}

@@ -20,6 +20,7 @@ pub enum PayloadKind {
 #[derive(Clone, Copy)]
 pub struct UnknownKind;
 
+// By a `match`, so that the numbers do not hang on the order of the cases.
 impl From<PayloadKind> for u8 {
     ghost from_gives = { λ kind n. n ≡ kind_number kind };
 

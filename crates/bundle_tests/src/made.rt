@@ -2,7 +2,7 @@
 use bundle::{Entry, PayloadKind};
 use std::alloc::{AllocError, Global};
 
-// The number of a denial, its place and its byte.
+// The number of a denial, its place and its byte: what can be compared, as a value in a denial cannot.
 type Denied = (Option<u8>, Option<usize>, usize);
 
 // How many modules are read, or the denial.

@@ -1,5 +1,5 @@
 -- Entries being read: what is known behind those read so far.
-use Rattle.std.proofs.Common.{◌≡◌, ◌<◌, ℕ, zero, suc, get_or, take, ◌+◌, ◌-◌, ◌≤◌, List, [], ◌∷◌, ◌++◌, map, length, Some, None, Ok, sym, refl, ap, ◌∙◌, subst, arith, length-append}
+use Rattle.std.proofs.Common.{◌≡◌, ◌<◌, ℕ, zero, suc, get_or, take, ◌+◌, ◌-◌, ◌≤◌, List, [], ◌∷◌, ◌++◌, map, length, Some, None, Ok, sym, ap, ◌∙◌, subst, arith, length-append}
 use lib.ListN.{length-map}
 use Rattle.std.proofs.lemmas.List.{map_push, nil_from_length}
 use Rattle.names.specs.Names.{Name, among}
@@ -11,7 +11,7 @@ use Rattle.entries.specs.Seen.{refusal}
 use Rattle.entries.specs.Entries.{Format, all_encoded, Front, Begins, Refused, Stops, Means}
 use Rattle.entries.specs.Reading.{all_contents, PlacedFrom, TakesFirst}
 use Rattle.entries.proofs.Seeing.{RefusedFor, refused_since, passed_since}
-use Rattle.entries.proofs.Unique.{parts, front_none, front_more}
+use Rattle.entries.proofs.Unique.{parts, front_more}
 
 -- the entries in front of the rest, their names and their bytes
 pub record SoFar {R E : Type 0} (F : Format E) (contents : R → E) (s : List ℕ) (xs : List (Placed R)) (names : List Name) (rest : List ℕ) : Type 0 where
@@ -33,9 +33,6 @@ module _ {R E : Type 0} (F : Format E) (contents : R → E) where
   byte_at byte (x ∷ xs) (b, h) (suc i) d l =
       let e = byte_at (byte + length (F.encoded (contents x.entry))) xs h i d (omega arith) in
       omega (arith, length-append (F.encoded (contents x.entry)) (all_encoded F (all_contents contents (take i xs))))
-
-  pub at_first : (s : List ℕ) (xs : List (Placed R)) (names : List Name) → xs ≡ [] → names ≡ [] → SoFar F contents s xs names s
-  at_first s xs names e n = rw (e, n) (record { front = front_none F s; are = refl; placed = tt })
 
   module _ (s : List ℕ) (xs : List (Placed R)) (names : List Name) (rest : List ℕ) (f : SoFar F contents s xs names rest) where
     byte_is : length (all_encoded F (all_contents contents xs)) ≡ length s - length rest

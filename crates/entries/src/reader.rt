@@ -1,5 +1,4 @@
 // Reading entries, one behind another.
-ghost use Rattle.std.specs.Prelude.{◌≡◌};
 ghost use Rattle.entries.specs.Reading.{Reads};
 
 use crate::encoded::Encoded;
@@ -16,6 +15,7 @@ pub fn read<'a, E: Encoded<'a>>(heap: Global, bytes: &'a [u8]) -> Result<Vec<Pla
     let mut entries = Vec::new(heap);
     let mut seen = Seen::new(heap);
     let mut rest = bytes;
+    // A `while`: what is left is known only once an entry is taken from it.
     while !rest.is_empty() {
         let byte = bytes.len() - rest.len();
         let (entry, behind) = E::first(rest).ok_or(Stop::Malformed.at(byte))?;

@@ -5,7 +5,7 @@ ghost use Rattle.list.specs.Reading.{content, Decodes, ReadsContent};
 
 use record::Value;
 
-// What stands in the 2 high bits of an entry's first byte.
+// What stands in the 2 high bits of an entry's first byte. Not the kinds of payloads in a bundle: those number other things.
 #[derive(Clone, Copy)]
 pub(crate) enum ValueKind {
     Undefined,
@@ -31,6 +31,7 @@ impl TryFrom<u8> for ValueKind {
 }
 
 // `undefined`, or a number by the eight bytes of its pattern, the highest first.
+// No `Option`, as `Value` is none: `undefined` is something that an entry holds.
 #[derive(Clone, Copy)]
 pub(crate) enum Content {
     Undefined,

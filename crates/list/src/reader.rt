@@ -8,6 +8,7 @@ use entries::{Fault, Placed, Stop};
 use record::{Cause, LoadFault};
 use std::alloc::Global;
 
+// A function, since neither type is of this crate.
 fn cause_of(why: Stop) -> Cause
     ensures { result ≡ cause_of why }
 {

@@ -1,6 +1,5 @@
 // Words: a letter, `_` or `$`, and then these or digits.
 ghost use Rattle.std.specs.Prelude.{◌≡◌};
-ghost use Rattle.names.specs.Names.{every};
 ghost use Rattle.names.specs.Words.{letter, letter_or_digit, word};
 
 fn is_letter(b: u8) -> bool

@@ -14,8 +14,8 @@ pub enum Outcome<T> {
     Several,
 }
 
-// Things with an equality, which looks at a value of theirs: of a reference, at what it refers to. `PartialEq` alone promises an
-// equivalence and knows no value, and no law of joins follows from that.
+// Things with an equality, which looks at a value of theirs: of a reference, at what it refers to. Beside `PartialEq`, which
+// knows no value: the laws of joins are told of values, so the test on values would be needed all the same.
 pub trait Same {
     ghost Value: { Type 0 };
 
@@ -91,7 +91,6 @@ pub fn join<T: Same + Drop>(a: Outcome<T>, b: Outcome<T>) -> Outcome<T>
 }
 
 // A whole list joined; an empty one gives nothing.
-#[tactic(auto, using(crate::proofs::Joins::laws))]
 pub fn join_all<T: Same + Drop>(outcomes: Vec<Outcome<T>>) -> Outcome<T>
     ensures values { valued T.value result ≡ joined_all T.same (valued_all T.value outcomes.items) }
     ensures laws { OrderBracketingAndRepetitionDoNotAffectAJoin T.same }

@@ -22,7 +22,7 @@ impl Cells {
     }
 
     // What a cell holds; where there is none, it is empty.
-    // Place and cell are two arguments: a body has its own place and a cell's index at hand, and no pair.
+    // Place and cell are two arguments, as in `store`, where a body gives its own place and the index of a cell.
     pub fn get(&self, place: usize, cell: usize) -> Cell
         ensures { result ≡ held self.now.rows (place, cell) }
     {

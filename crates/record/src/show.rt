@@ -14,7 +14,7 @@ impl fmt::Display for Value {
     }
 }
 
-// `denied 13 place - byte 5 (malformed bundle or rows)`
+// `denied 13 place - byte 5 (malformed bundle or rows)`; written out, since the number and the place may be missing
 impl fmt::Display for Denial {
     fn fmt<W: fmt::Write>(&self, f: &mut fmt::Formatter<W>) -> fmt::Result {
         let Some(number) = self.cause.number() else {

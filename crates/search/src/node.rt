@@ -8,7 +8,7 @@ pub struct Node {
     ghost below: { value < 32 },
 }
 
-// `new` and `number` are like `new` and `get` of `NonZero`: the error of a `TryFrom` could say no more than `None`.
+// `new` and `number` are like `new` and `get` of `NonZero`: conversions beside them would say the same twice.
 impl Node {
     /// The node of this number, if it is below 32.
     pub fn new(number: usize) -> Option<Node>

@@ -7,8 +7,8 @@ ghost use Rattle.search.specs.declared.mark.Mark.TheVariants.{Fresh};
 
 use crate::{Mark, Node, Stack, Walk};
 
-/// A walk, and the stack that shows how far its search has come. No step changes which walk and which stack these are:
-/// each method says so by itself, since a fact of the type speaks of one moment.
+/// A walk, and the stack that shows how far its search has come. Every method leaves
+/// which walk and which stack these are; it says so itself, since a fact of the type can't speak of before and after.
 #[derive(Drop)]
 pub(crate) struct Searching<'a, W: Walk> {
     pub(crate) walk: &'a mut W,

@@ -12,7 +12,7 @@ struct Visit {
     low: u8,
 }
 
-/// The indices and low marks of the nodes, and the nodes on the stack.
+/// The indices and low marks of the nodes, and the nodes on the stack. All of a fixed size, since no search allocates.
 #[derive(Drop)]
 pub struct Stack {
     visits: [Visit; 32],

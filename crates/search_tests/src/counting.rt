@@ -16,7 +16,7 @@ pub enum Stage {
     Counted,
 }
 
-/// Two arrays and not one of pairs: the counts alone are what the search is asked for.
+/// Two arrays and not one of pairs: `count` answers the counts alone.
 #[derive(Drop)]
 pub struct Counting {
     pub stages: [Stage; 32],
