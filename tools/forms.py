@@ -45,7 +45,7 @@ def functions():
             else:
                 head, body = text[m.start():stop.end() if stop else len(text)], ""
             line = text.count("\n", 0, m.start()) + 1
-            args = re.search(r"\((.*?)\)\s*(?:->|\n|$|;|\{)", head, re.S)
+            args = re.search(r"\((.*?)\)\s*(?:->|\n|$|;|\{)", text[m.end():m.start() + len(head)], re.S)
             params = tuple(p.strip() for p in re.split(r",\s*(?![^<\[(]*[>\])])", args.group(1).replace("\n", " ")) if ":" in p) if args else ()
             clauses = re.findall(r"(?:requires|ensures)(?: \w+)? \{ (.*) \}", head)
             yield path, line, m.group(2), params, clauses, body
@@ -58,7 +58,8 @@ def twins():
     """Functions whose bodies differ only in names, numbers and strings."""
     groups = collections.defaultdict(list)
     for path, line, name, params, _, body in FUNCTIONS:
-        text = re.sub(r"b?\"(?:[^\"\\]|\\.)*\"|b?'(?:[^'\\]|\\.)+'", "S", body)
+        text = re.sub(r"^(\s*)(\w+),$", r"\1\2: \2,", body, flags=re.M)
+        text = re.sub(r"b?\"(?:[^\"\\]|\\.)*\"|b?'(?:[^'\\]|\\.)+'", "S", text)
         keys = r"\b(?!(?:if|else|match|for|while|loop|return|let|mut|in|true|false|Some|None|Ok|Err|self)\b)\w+"
         shape = re.sub(r"\s+", " ", re.sub(keys, "x", text))
         if len(re.findall(r"\w+|[^\w\s]", shape)) >= 12:
@@ -96,9 +97,9 @@ def enums():
     found = []
     for path, lines in files.items():
         text = "\n".join(lines)
-        for m in re.finditer(r"^pub enum (\w+)(?:<[^>]*>)? \{\n((?:.*\n)*?)\}", text, re.M):
-            cases = [c.strip() for c in m.group(2).splitlines() if c.strip()]
-            if len(cases) == 2 and sum("(" in c for c in cases) >= 1:
+        for m in re.finditer(r"^(?:pub(?:\([a-z]+\))? )?enum (\w+)(?:<[^>]*>)? \{\n((?:.*\n)*?)\}", text, re.M):
+            cases = re.findall(r"^    [A-Z]\w*\b.*", re.sub(r"^\s*#\[.*", "", m.group(2), flags=re.M), re.M)
+            if len(cases) == 2 and sum("(" in c for c in cases) == 1:
                 found.append((path, text.count("\n", 0, m.start()) + 1, "enum " + m.group(1)))
     return found
 

@@ -9,6 +9,7 @@ use crate::{Mark, Node, Stack, Walk};
 
 /// A walk, and the stack that shows how far its search has come. Every method leaves
 /// which walk and which stack these are; it says so itself, since a fact of the type can't speak of before and after.
+/// What both show is written out in each clause: a name for it would have to be given the marks of the walk as well.
 #[derive(Drop)]
 pub(crate) struct Searching<'a, W: Walk> {
     pub(crate) walk: &'a mut W,
