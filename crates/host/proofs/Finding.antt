@@ -1,7 +1,8 @@
 -- The place of a name among others, and the first of a list that may not stand in its place.
-use Rattle.std.proofs.Common.{◌≡◌, ℕ, zero, suc, ◌+◌, ◌<◌, ◌≤◌, Bool, true, false, cond, not, ◌&&◌, ◌||◌, leb, ltb, List, [], ◌∷◌, ◌++◌, map, length, get_or, take, drop, Some, None, MatchOption, Option, sym, refl, ap, ◌∙◌, add-one, arith, length-append, Bor}
+use Rattle.std.proofs.Common.{◌≡◌, ℕ, zero, suc, ◌+◌, ◌<◌, ◌≤◌, Bool, true, false, cond, not, ◌&&◌, ◌||◌, leb, ltb, List, [], ◌∷◌, ◌++◌, map, length, get_or, take, drop, Some, None, MatchOption, Option, sym, refl, ap, ◌∙◌, subst, add-one, arith, length-append, Bor}
 use Rattle.std.proofs.Math.Seq.{split_at}
-use Rattle.std.specs.List.{position, position_or_len, list_any}
+use Rattle.std.specs.List.{position, position_or_len, list_any, enumerate_from, AllWithin, HoldsAt}
+use Rattle.std.proofs.lemmas.List.FromFn.{length-enumerate_from, get_or-enumerate_from}
 use Rattle.std.specs.Option.{option_map}
 use Rattle.std.specs.Str.{bytes_eq}
 use Rattle.std.proofs.lemmas.List.{length-map, take_all, map_more, map-append, length-take-le}
@@ -35,24 +36,37 @@ pub position_map : {A B : Type 0} (f : A → B) (p : B → Bool) (xs : List A) �
 position_map f p [] = refl
 position_map f p (x ∷ xs) = position_more (λ y. p (f y)) x xs ∙ ap (λ o. cond (p (f x)) (Some 0) (option_map suc o)) (position_map f p xs) ∙ sym (position_more p (f x) (map f xs))
 
--- a search by number for the first bad one, where f takes the elements to what they stand for
-module _ {A B : Type 0} (f : A → B) (well : List B → Bool) (bad : List B → B → Bool) (none : well [] ≡ true) (more : (xs : List B) (x : B) → well xs ≡ true → bad xs x ≡ false → well (xs ++ (x ∷ [])) ≡ true) (xs : List A) (d : A) where
-  well_before : (n : ℕ) → n ≤ length xs → ((k : ℕ) → 0 ≤ k → k < n → bad (map f (take k xs)) (f (get_or xs k d)) ≡ false) → well (map f (take n xs)) ≡ true
-  well_before zero l h = none
-  well_before (suc n) l h =
-      rw (sym (add-one n), map_more f xs n d) (more (map f (take n xs)) (f (get_or xs n d)) (well_before n (omega arith) (λ k z i. h k z (omega arith))) (h n (omega arith) (omega arith)))
+-- a search for the first bad one, where f takes the elements to what they stand for
+module _ {A B : Type 0} (f : A → B) (well : List B → Bool) (bad : List B → B → Bool) (none : well [] ≡ true) (more : (xs : List B) (x : B) → well xs ≡ true → bad xs x ≡ false → well (xs ++ (x ∷ [])) ≡ true) where
+  -- the test for an element answers so behind those before it
+  abbrev pub Tests : List A → Bool → ℕ × A → Type 0
+  Tests xs t p = bad (map f (take p.0 xs)) (f p.1) ≡ t
 
-  pub first_bad : (r : Option ℕ) → MatchOption r ((k : ℕ) → 0 ≤ k → k < length xs → bad (map f (take k xs)) (f (get_or xs k d)) ≡ false) (λ i. (0 ≤ i) × (i < length xs) × (bad (map f (take i xs)) (f (get_or xs i d)) ≡ true) × ((k : ℕ) → 0 ≤ k → k < i → bad (map f (take k xs)) (f (get_or xs k d)) ≡ false)) → MatchOption r (well (map f xs) ≡ true) (FirstBad well bad (map f xs))
-  first_bad None h = ap (λ l. well (map f l)) (sym (take_all (length xs) xs (omega arith))) ∙ well_before (length xs) (omega arith) h
-  first_bad (Some i) (z, l, e, h) = record {
-    before = map f (take i xs);
-    bad = f (get_or xs i d);
-    after = map f (drop (suc i) xs);
-    all = sym (map-append f (take i xs) (get_or xs i d ∷ drop (suc i) xs)) ∙ ap (map f) (sym (split_at xs i d l));
-    are_well = well_before i (omega arith) h;
-    is_bad = e;
-    is_number = length-map (take i xs) f ∙ length-take-le i xs (omega arith);
-  }
+  module _ (xs : List A) (d : A) where
+    test_at : (t : Bool) (k : ℕ) → k < length xs → HoldsAt (Tests xs t) (enumerate_from 0 xs) k → bad (map f (take k xs)) (f (get_or xs k d)) ≡ t
+    test_at t k l h = subst (Tests xs t) (get_or-enumerate_from 0 xs k (0, d) l ∙ ap (λ i. (i, get_or xs k d)) (omega arith)) (h (0, d))
+
+    well_before : (n : ℕ) → n ≤ length xs → AllWithin (Tests xs false) (enumerate_from 0 xs) 0 n → well (map f (take n xs)) ≡ true
+    well_before zero l h = none
+    well_before (suc n) l h =
+        rw (sym (add-one n), map_more f xs n d) (more (map f (take n xs)) (f (get_or xs n d)) (well_before n (omega arith) (λ k e z i. h k e z (omega arith))) (test_at false n (omega arith) (λ e. h n e (omega arith) (omega arith))))
+
+    first_bad_at : (i : ℕ) → i < length xs → HoldsAt (Tests xs true) (enumerate_from 0 xs) i → AllWithin (Tests xs false) (enumerate_from 0 xs) 0 i → FirstBad well bad (map f xs) i
+    first_bad_at i l e h = record {
+      before = map f (take i xs);
+      bad = f (get_or xs i d);
+      after = map f (drop (suc i) xs);
+      all = sym (map-append f (take i xs) (get_or xs i d ∷ drop (suc i) xs)) ∙ ap (map f) (sym (split_at xs i d l));
+      are_well = well_before i (omega arith) h;
+      is_bad = test_at true i l e;
+      is_number = length-map (take i xs) f ∙ length-take-le i xs (omega arith);
+    }
+
+  pub first_bad : (xs : List A) (r : Option ℕ) → MatchOption r (AllWithin (Tests xs false) (enumerate_from 0 xs) 0 (length (enumerate_from 0 xs))) (λ i. (i < length (enumerate_from 0 xs)) × HoldsAt (Tests xs true) (enumerate_from 0 xs) i × AllWithin (Tests xs false) (enumerate_from 0 xs) 0 i) → MatchOption r (well (map f xs) ≡ true) (FirstBad well bad (map f xs))
+  first_bad [] None h = none
+  first_bad [] (Some i) (l, e, h) = absurd (omega arith)
+  first_bad (x ∷ xs) None h = let n = length-enumerate_from 0 (x ∷ xs) in ap (λ l. well (map f l)) (sym (take_all (length (x ∷ xs)) (x ∷ xs) (omega arith))) ∙ well_before (x ∷ xs) x (length (x ∷ xs)) (omega arith) (subst (AllWithin (Tests (x ∷ xs) false) (enumerate_from 0 (x ∷ xs)) 0) n h)
+  first_bad (x ∷ xs) (Some i) (l, e, h) = let n = length-enumerate_from 0 (x ∷ xs) in first_bad_at (x ∷ xs) x i (omega arith) e h
 
 -- one more name that may stand behind those held
 pub holdable_more : (ks : List Name) (x : Name) → holdable ks ≡ true → misplaced ks x ≡ false → holdable (ks ++ (x ∷ [])) ≡ true

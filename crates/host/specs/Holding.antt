@@ -1,11 +1,10 @@
 -- The keys that a host holds: the first at place 0, the next at place 1, and so on.
-use Rattle.std.specs.Prelude.{◌≡◌, ℕ, Bool, true, not, ◌&&◌, ◌||◌, ◌⊎◌, List, ◌∷◌, ◌++◌, map, length, Some, None, Option, nat_le}
+use Rattle.std.specs.Prelude.{◌≡◌, ℕ, Bool, true, not, ◌&&◌, ◌||◌, ◌⊎◌, List, ◌∷◌, ◌++◌, map, length, Some, Option, nat_le}
 use Rattle.std.specs.Borrow.{Bor}
 use Rattle.std.specs.List.{slice_get, position}
 use Rattle.std.specs.Str.{bytes_eq}
 use Rattle.names.specs.Names.{Name, among, distinct, every}
 use Rattle.names.specs.Keys.{key}
-use Rattle.record.specs.declared.denial.Cause.TheVariants.{MalformedBundle}
 use Rattle.record.specs.declared.denial.Denial.{Denial}
 use Rattle.record.specs.Denials.{malformed_at}
 use Rattle.record.specs.Memory.{memory_denial}

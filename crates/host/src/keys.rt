@@ -4,7 +4,7 @@ ghost use Rattle.std.specs.List.{slice_get};
 ghost use Rattle.std.specs.Option.{option_map};
 ghost use Rattle.host.specs.Holding.{all_now, place_of, holdable, Holds, RefusesKeys};
 
-use crate::misplaced::first_misplaced;
+use crate::misplaced::check_keys;
 use record::Denial;
 use std::alloc::Global;
 
@@ -20,9 +20,7 @@ impl<'a> Keys<'a> {
     pub(crate) fn new(heap: Global, keys: &[&'a [u8]]) -> Result<Keys<'a>, Denial>
         ensures { MatchResult result (λ k. Holds (all_now keys.now) (all_now k.names.items)) (RefusesKeys (all_now keys.now)) }
     {
-        if let Some(n) = first_misplaced(keys) {
-            return Err(Denial::malformed(n));
-        }
+        check_keys(keys)?;
         let names = Vec::from_slice(heap, keys)?;
         Ok(Keys { names })
     }

@@ -6,7 +6,7 @@ ghost use Rattle.host.specs.Lawful.{mapped_hosting_lawful};
 
 use crate::keys::Keys;
 use crate::row::Row;
-use crate::rows::{first_bad_row, said_by_all};
+use crate::rows::{check_rows, said_by_all};
 use outcome::Outcome;
 use record::{Denial, Host};
 use std::alloc::Global;
@@ -26,9 +26,7 @@ impl<'a> MappedHost<'a> {
         ensures order { IfOk result (λ h. OrderOfRowsAndRowsWrittenTwiceDoNotAffectAnAnswer (all_now h.keys.names.items) (plain_all h.rows.items)) }
     {
         let keys = Keys::new(heap, keys)?;
-        if let Some(n) = first_bad_row(rows) {
-            return Err(Denial::malformed(n));
-        }
+        check_rows(rows)?;
         let rows = Vec::from_slice(heap, rows)?;
         Ok(MappedHost { keys, rows })
     }

@@ -1,8 +1,10 @@
 // Which keys a host can hold.
-ghost use Rattle.std.specs.Prelude.{◌≡◌, true, MatchOption};
+ghost use Rattle.std.specs.Prelude.{◌≡◌, ℕ, true, MatchResult};
+ghost use Rattle.record.specs.Denials.{malformed_at};
 ghost use Rattle.host.specs.Holding.{all_now, holdable, misplaced, FirstMisplaced};
 
 use names::is_key;
+use record::Denial;
 
 // A host holds at most so many keys.
 const MAX_KEYS: usize = 32;
@@ -14,9 +16,16 @@ fn is_misplaced(before: &[&[u8]], name: &[u8]) -> bool
     before.len() >= MAX_KEYS || !is_key(name) || before.contains(&name)
 }
 
-// The number of the first such name, if there is one: an answer as `position` gives it, and no refusal before its caller makes one of it.
-pub(crate) fn first_misplaced(keys: &[&[u8]]) -> Option<usize>
-    ensures { MatchOption result (holdable (all_now keys.now) ≡ true) (FirstMisplaced (all_now keys.now)) }
+// Refuses keys that a host cannot hold, at the number of the first that is misplaced.
+pub(crate) fn check_keys(keys: &[&[u8]]) -> Result<(), Denial>
+    ensures { MatchResult result (λ _. holdable (all_now keys.now) ≡ true) (λ d. (n : ℕ) × (d ≡ malformed_at n) × FirstMisplaced (all_now keys.now) n) }
 {
-    (0..keys.len()).find(|i| is_misplaced(&keys[..*i], keys[*i]))
+    match keys
+        .iter()
+        .enumerate()
+        .position(|(i, key)| is_misplaced(&keys[..i], key))
+    {
+        Some(n) => Err(Denial::malformed(n)),
+        None => Ok(()),
+    }
 }

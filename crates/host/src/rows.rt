@@ -1,11 +1,13 @@
 // Which rows a mapped host can have, and what they say.
-ghost use Rattle.std.specs.Prelude.{◌≡◌, true, map, MatchOption};
+ghost use Rattle.std.specs.Prelude.{◌≡◌, ℕ, true, map, MatchResult};
 ghost use Rattle.std.specs.Str.{bytes_eq};
+ghost use Rattle.record.specs.Denials.{malformed_at};
 ghost use Rattle.outcome.specs.Joining.{joined_all, valued};
 ghost use Rattle.host.specs.MappedHosts.{plain, plain_all, says, good_rows, bad_row_behind, FirstBadRow};
 
 use crate::row::Row;
 use outcome::{Outcome, join};
+use record::Denial;
 
 // A mapped host has at most so many rows.
 const MAX_ROWS: usize = 64;
@@ -17,11 +19,18 @@ fn is_bad_behind(before: &[Row<'_>], row: &Row<'_>) -> bool
     before.len() >= MAX_ROWS || !row.is_good()
 }
 
-// The number of the first such row, if there is one. A function beside `first_misplaced`: one for both would take the test as a closure, and each is but one call of `find`.
-pub(crate) fn first_bad_row(rows: &[Row<'_>]) -> Option<usize>
-    ensures { MatchOption result (good_rows (plain_all rows.now) ≡ true) (FirstBadRow (plain_all rows.now)) }
+// Refuses rows that a mapped host cannot have, at the number of the first bad one. A function beside `check_keys`: one for both would take the test as a closure, and each is but one call of `position`.
+pub(crate) fn check_rows(rows: &[Row<'_>]) -> Result<(), Denial>
+    ensures { MatchResult result (λ _. good_rows (plain_all rows.now) ≡ true) (λ d. (n : ℕ) × (d ≡ malformed_at n) × FirstBadRow (plain_all rows.now) n) }
 {
-    (0..rows.len()).find(|i| is_bad_behind(&rows[..*i], &rows[*i]))
+    match rows
+        .iter()
+        .enumerate()
+        .position(|(i, row)| is_bad_behind(&rows[..i], row))
+    {
+        Some(n) => Err(Denial::malformed(n)),
+        None => Ok(()),
+    }
 }
 
 // What all rows say, joined.

@@ -1,7 +1,7 @@
-use Rattle.std.proofs.Common.{sym, ap, subst}
+use Rattle.std.proofs.Common.{ap, subst}
 use Rattle.std.proofs.lemmas.Result.{err_from_is_err_and}
 use Rattle.host.specs.Holding.{all_now}
-use Rattle.host.specs.MappedHosts.{plain_all, RefusesToMap, no_memory, bad_row, FollowsRows, mapped_hosting}
+use Rattle.host.specs.MappedHosts.{plain_all, no_memory, bad_row, FollowsRows, mapped_hosting}
 use Rattle.host.proofs.Mapping.{order_of_rows, keys_refused}
 use Rattle.host.proofs.Numbered.{numbered_as_given}
 use Rattle.host.proofs.Targets.{follows_rows}
@@ -12,8 +12,11 @@ returns-in_err-keys-clause-makes c =
     let p = err_from_is_err_and c.from_residual.result c.from_residual.ensures.1 in
     rw (p.1, p.2) (keys_refused (all_now c.args.keys.now) (plain_all c.args.rows.now) c.in_err-keys.field-0.0 c.in_err-keys.ensures)
 
-pub returns-in-Some-clause-makes : goal.returns-in-Some-clause-makes
-returns-in-Some-clause-makes c = subst (RefusesToMap (all_now c.args.keys.now) (plain_all c.args.rows.now)) (sym c.malformed.ensures) (bad_row c.in_ok-keys.ensures.1 c.in-Some.ensures)
+pub returns-in_err-check_rows-clause-makes : goal.returns-in_err-check_rows-clause-makes
+returns-in_err-check_rows-clause-makes c =
+    let p = err_from_is_err_and c.from_residual-in_err-check_rows.result c.from_residual-in_err-check_rows.ensures.1 in
+    let (n, e, f) = c.in_err-check_rows.ensures in
+    rw (p.1, p.2, e) (bad_row c.in_ok-keys.ensures.1 f)
 
 pub returns-in_err-rows-clause-makes : goal.returns-in_err-rows-clause-makes
 returns-in_err-rows-clause-makes c =
