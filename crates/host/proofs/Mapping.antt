@@ -1,4 +1,4 @@
--- A loop over rows: the first bad one, what they say, and that their order does not count.
+-- Rows: one more that may stand behind others, what they say joined, and that their order does not count.
 use Rattle.std.proofs.Common.{◌≡◌, true, false, not, leb, List, [], ◌∷◌, ◌++◌, map, length, Some, None, Option, sym, refl, ap, ◌∙◌, subst, inl, inr, arith, length-append}
 use mathlib.Core.List.Memᴰ
 use mathlib.Core.List.{Memᴰ}

@@ -4,3 +4,4 @@ pub mod Holding
 pub mod FileHosts
 pub mod MappedHosts
 pub mod Lawful
+pub mod Held

@@ -3,6 +3,7 @@ ghost use Rattle.std.specs.Prelude.{◌≡◌, IfOk, MatchResult};
 ghost use Rattle.names.specs.Keys.{parts};
 ghost use Rattle.host.specs.Paths.{relative};
 ghost use Rattle.host.specs.Holding.{all_now, Holds, RefusesKeys, EachKeyHasItsNumberAsItsPlace};
+ghost use Rattle.host.specs.Held.{held};
 ghost use Rattle.host.specs.FileHosts.{file_hosting, FollowsPaths, PlainSpecifiersLeadDown, WaysBetweenHeldKeysAreFound};
 ghost use Rattle.host.specs.Lawful.{file_hosting_lawful};
 
@@ -26,11 +27,11 @@ pub struct FileHost<'a> {
 
 impl<'a> FileHost<'a> {
     pub fn new(heap: Global, keys: &[&'a [u8]]) -> Result<FileHost<'a>, Denial>
-        ensures makes { MatchResult result (λ h. Holds (all_now keys.now) (all_now h.keys.names.items)) (RefusesKeys (all_now keys.now)) }
-        ensures places { IfOk result (λ h. EachKeyHasItsNumberAsItsPlace (all_now keys.now) (file_hosting (all_now h.keys.names.items)).seek) }
-        ensures follows { IfOk result (λ h. FollowsPaths (file_hosting (all_now h.keys.names.items))) }
-        ensures plain { IfOk result (λ h. PlainSpecifiersLeadDown (file_hosting (all_now h.keys.names.items))) }
-        ensures ways { IfOk result (λ h. WaysBetweenHeldKeysAreFound (file_hosting (all_now h.keys.names.items))) }
+        ensures makes { MatchResult result (λ h. Holds (all_now keys.now) (held h.keys)) (RefusesKeys (all_now keys.now)) }
+        ensures places { IfOk result (λ h. EachKeyHasItsNumberAsItsPlace (all_now keys.now) (file_hosting (held h.keys)).seek) }
+        ensures follows { IfOk result (λ h. FollowsPaths (file_hosting (held h.keys))) }
+        ensures plain { IfOk result (λ h. PlainSpecifiersLeadDown (file_hosting (held h.keys))) }
+        ensures ways { IfOk result (λ h. WaysBetweenHeldKeysAreFound (file_hosting (held h.keys))) }
     {
         let keys = Keys::new(heap, keys)?;
         Ok(FileHost { keys })
@@ -38,9 +39,9 @@ impl<'a> FileHost<'a> {
 }
 
 impl<'a> Host for FileHost<'a> {
-    ghost meaning = { λ h. file_hosting (all_now h.keys.names.items) };
+    ghost meaning = { λ h. file_hosting (held h.keys) };
 
-    ghost lawful = { λ h. file_hosting_lawful (all_now h.keys.names.items) h.keys.ok };
+    ghost lawful = { λ h. file_hosting_lawful (held h.keys) h.keys.ok };
 
     fn seek(&self, key: &[u8]) -> Option<usize> {
         self.keys.place_of(key)

@@ -28,7 +28,9 @@ impl<'a> Goal<'a> {
 
     // Back over a part that is a name.
     fn before_name(self, name: &[u8]) -> Option<Goal<'a>>
-        requires { (bytes_eq name.now [] ≡ false) × (bytes_eq name.now (codes ".") ≡ false) × (bytes_eq name.now (codes "..") ≡ false) }
+        requires not_empty { bytes_eq name.now [] ≡ false }
+        requires not_here { bytes_eq name.now (codes ".") ≡ false }
+        requires not_up { bytes_eq name.now (codes "..") ≡ false }
         ensures back { GoesBack (name.now ∷ []) self.entry result }
         ensures size { IfSome result (λ h. h.extra ≤ self.entry.extra) }
     {

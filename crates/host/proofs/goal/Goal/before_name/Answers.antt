@@ -9,12 +9,12 @@ use Rattle.host.proofs.Walks.{back_dropped, back_kept, back_other}
 use Rattle.host.proofs.goal.Goal.before_name.Goals as goal
 
 pub returns-then-self-gt0-clause-back : goal.returns-then-self-gt0-clause-back
-returns-then-self-gt0-clause-back c = back_dropped (aim c.args.self) c.args.self.extra c.args.name.now c.requires.0 c.requires.1 c.requires.2 (c.args.self.extra - 1) (omega arith)
+returns-then-self-gt0-clause-back c = back_dropped (aim c.args.self) c.args.self.extra c.args.name.now c.requires.not_empty c.requires.not_here c.requires.not_up (c.args.self.extra - 1) (omega arith)
 
 pub returns-then-ne-clause-back : goal.returns-then-ne-clause-back
 returns-then-ne-clause-back c =
     let path = ap (λ o. segments (option_map (λ x. x.now) o)) c.in_ok-self.was ∙ splits_segments c.in_ok-self.field-0.now _ _ c.split_last.ensures in
-    back_other (aim c.args.self) c.args.self.extra c.args.name.now c.requires.0 c.requires.1 c.requires.2 (segments (option_map (λ x. x.now) c.split_last.result.0)) c.split_last.result.1.now (omega arith) path
+    back_other (aim c.args.self) c.args.self.extra c.args.name.now c.requires.not_empty c.requires.not_here c.requires.not_up (segments (option_map (λ x. x.now) c.split_last.result.0)) c.split_last.result.1.now (omega arith) path
     (λ e. both_ways _ (not-true _ (sym c.if-ne.ensures)) ((bytes_eq-Decides _ _).1 e))
 
 pub returns-clause-back : goal.returns-clause-back
@@ -22,4 +22,4 @@ returns-clause-back c =
     let path = ap (λ o. segments (option_map (λ x. x.now) o)) c.in_ok-self.was ∙ splits_segments c.in_ok-self.field-0.now _ _ c.split_last.ensures in
     let same : c.split_last.result.1.now ≡ c.args.name.now = (bytes_eq-Decides _ _).0 (not-false _ (sym c.if-ne.ensures)) in
     let front = segments (option_map (λ x. x.now) c.split_last.result.0) in
-    back_kept (aim c.args.self) c.args.self.extra c.args.name.now c.requires.0 c.requires.1 c.requires.2 front (omega arith) (path ∙ ap (λ x. front ++ (x ∷ [])) same)
+    back_kept (aim c.args.self) c.args.self.extra c.args.name.now c.requires.not_empty c.requires.not_here c.requires.not_up front (omega arith) (path ∙ ap (λ x. front ++ (x ∷ [])) same)

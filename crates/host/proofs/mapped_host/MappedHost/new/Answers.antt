@@ -1,6 +1,7 @@
 use Rattle.std.proofs.Common.{ap, subst}
 use Rattle.std.proofs.lemmas.Result.{err_from_is_err_and}
 use Rattle.host.specs.Holding.{all_now}
+use Rattle.host.specs.Held.{held}
 use Rattle.host.specs.MappedHosts.{plain_all, no_memory, bad_row, FollowsRows, mapped_hosting}
 use Rattle.host.proofs.Mapping.{order_of_rows, keys_refused}
 use Rattle.host.proofs.Numbered.{numbered_as_given}
@@ -24,13 +25,13 @@ returns-in_err-rows-clause-makes c =
     rw (p.1, p.2) no_memory
 
 pub returns-clause-places : goal.returns-clause-places
-returns-clause-places c = numbered_as_given (all_now c.in_ok-keys.keys.names.items) c.in_ok-keys.keys.ok (all_now c.args.keys.now) c.in_ok-keys.ensures.0
+returns-clause-places c = numbered_as_given (held c.in_ok-keys.keys) c.in_ok-keys.keys.ok (all_now c.args.keys.now) c.in_ok-keys.ensures.0
 
 pub returns-clause-follows : goal.returns-clause-follows
 returns-clause-follows c =
-    let ks = all_now c.in_ok-keys.keys.names.items in
+    let ks = held c.in_ok-keys.keys in
     let rows = plain_all c.in_ok-rows.rows.items in
     subst (λ l. FollowsRows l (mapped_hosting ks rows)) (ap plain_all c.in_ok-rows.ensures.items) (follows_rows ks c.in_ok-keys.keys.ok rows)
 
 pub returns-clause-order : goal.returns-clause-order
-returns-clause-order c = order_of_rows (all_now c.in_ok-keys.keys.names.items) (plain_all c.in_ok-rows.rows.items)
+returns-clause-order c = order_of_rows (held c.in_ok-keys.keys) (plain_all c.in_ok-rows.rows.items)
