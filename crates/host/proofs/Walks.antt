@@ -1,12 +1,25 @@
 -- Where parts lead, and what going back over them finds.
-use Rattle.std.proofs.Common.{◌≡◌, ℕ, ◌+◌, true, false, List, [], ◌∷◌, ◌++◌, length, Some, None, codes, Option, sym, refl, ap, ◌∙◌, append_assoc, append-nil, arith, length-append}
+use Rattle.std.proofs.Common.{◌≡◌, ℕ, ◌+◌, ◌<◌, ◌≤◌, true, false, List, [], ◌∷◌, ◌++◌, length, get_or, Some, None, codes, Option, sym, refl, ap, ◌∙◌, append_assoc, append-nil, arith, length-append}
 use Rattle.std.specs.Str.{bytes_eq}
+use Rattle.std.proofs.lemmas.Slice.Eq.{bytes_eq-Decides}
 use Rattle.std.proofs.lemmas.List.{same_from_push, nil_from_length}
 use Rattle.std.proofs.lemmas.Bool.{cond-true, cond-false}
 use Rattle.std.specs.Option.{option_and_then}
 use Rattle.std.proofs.lemmas.Option.{none-some}
 use Rattle.names.specs.Names.{Name}
 use Rattle.host.specs.Paths.{without_last, parent, stepped, walked}
+
+-- a name of one byte, and one of two
+pub one_byte : (x : Name) (a : ℕ) → 1 ≤ length x → length x < 2 → get_or x 0 0 ≡ a → bytes_eq x (a ∷ []) ≡ true
+one_byte [] a l m e = absurd (omega arith)
+one_byte (b ∷ []) a l m e = (bytes_eq-Decides (b ∷ []) (a ∷ [])).1 (ap (λ c. c ∷ []) e)
+one_byte (b ∷ (c ∷ x)) a l m e = absurd (omega arith)
+
+pub two_bytes : (x : Name) (a b : ℕ) → 2 ≤ length x → length x < 3 → get_or x 0 0 ≡ a → get_or x 1 0 ≡ b → bytes_eq x (a ∷ (b ∷ [])) ≡ true
+two_bytes [] a b l m e f = absurd (omega arith)
+two_bytes (c ∷ []) a b l m e f = absurd (omega arith)
+two_bytes (c ∷ (d ∷ [])) a b l m e f = (bytes_eq-Decides (c ∷ (d ∷ [])) (a ∷ (b ∷ []))).1 (ap (λ i. i ∷ (d ∷ [])) e ∙ ap (λ i. a ∷ (i ∷ [])) f)
+two_bytes (c ∷ (d ∷ (i ∷ x))) a b l m e f = absurd (omega arith)
 
 -- an answer that came of another
 pub then_some : {A B : Type 0} (o : Option A) (f : A → Option B) (b : B) → option_and_then f o ≡ Some b → (a : A) × (o ≡ Some a) × (f a ≡ Some b)

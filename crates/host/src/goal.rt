@@ -6,7 +6,13 @@ ghost use Rattle.host.specs.Paths.{without_last};
 ghost use Rattle.host.specs.Goals.{Meets, GoesBack};
 
 use crate::parts::split_last;
-use names::same_name;
+
+// The parts that are no names: an empty one, the directory itself, and the directory above it.
+const EMPTY: &[u8] = b"";
+
+const HERE: &[u8] = b".";
+
+const UP: &[u8] = b"..";
 
 // A path with these segments, none if there is no path, and so many more behind them, which are dropped again.
 #[derive(Clone, Copy)]
@@ -56,17 +62,14 @@ impl<'a> Goal<'a> {
         ensures back { GoesBack (part.now ∷ []) self.entry result }
         ensures size { IfSome result (λ h. 2 * h.extra ≤ 2 * self.entry.extra + length part.now) }
     {
-        if same_name(part, b"") {
-            None
-        } else if same_name(part, b".") {
-            Some(self)
-        } else if same_name(part, b"..") {
-            Some(Goal {
+        match part {
+            EMPTY => None,
+            HERE => Some(self),
+            UP => Some(Goal {
                 path: self.path,
                 extra: self.extra + 1,
-            })
-        } else {
-            self.before_name(part)
+            }),
+            _ => self.before_name(part),
         }
     }
 
