@@ -1,7 +1,11 @@
 -- The place of a name among others, and the first of a list that may not stand in its place.
 use Rattle.std.proofs.Common.{◌≡◌, ℕ, zero, suc, ◌+◌, ◌<◌, ◌≤◌, Bool, true, false, cond, not, ◌&&◌, ◌||◌, leb, ltb, List, [], ◌∷◌, ◌++◌, map, length, get_or, take, drop, Some, None, MatchOption, Option, sym, refl, ap, ◌∙◌, subst, add-one, arith, length-append, Bor}
 use Rattle.std.proofs.Math.Seq.{split_at}
-use Rattle.std.specs.List.{position, position_or_len, list_any, enumerate_from, AllWithin, HoldsAt}
+use Rattle.std.specs.List.{position, position_or_len, list_any, enumerate_from, AllWithin, HoldsAt, FoldsTo}
+use Rattle.std.specs.Fn.{Called}
+use Rattle.std.specs.Iterator.{YieldsThen}
+use denote.Param.Members.{Mut}
+use Rattle.std.proofs.lemmas.Iterator.{YieldsList, IsFirst-from_position}
 use Rattle.std.proofs.lemmas.List.FromFn.{length-enumerate_from, get_or-enumerate_from}
 use Rattle.std.specs.Option.{option_map}
 use Rattle.std.specs.Str.{bytes_eq}
@@ -39,7 +43,7 @@ position_map f p (x ∷ xs) = position_more (λ y. p (f y)) x xs ∙ ap (λ o. c
 -- a search for the first bad one, where f takes the elements to what they stand for
 module _ {A B : Type 0} (f : A → B) (well : List B → Bool) (bad : List B → B → Bool) (none : well [] ≡ true) (more : (xs : List B) (x : B) → well xs ≡ true → bad xs x ≡ false → well (xs ++ (x ∷ [])) ≡ true) where
   -- the test for an element answers so behind those before it
-  abbrev pub Tests : List A → Bool → ℕ × A → Type 0
+  abbrev Tests : List A → Bool → ℕ × A → Type 0
   Tests xs t p = bad (map f (take p.0 xs)) (f p.1) ≡ t
 
   module _ (xs : List A) (d : A) where
@@ -62,11 +66,15 @@ module _ {A B : Type 0} (f : A → B) (well : List B → Bool) (bad : List B →
       is_number = length-map (take i xs) f ∙ length-take-le i xs (omega arith);
     }
 
-  pub first_bad : (xs : List A) (r : Option ℕ) → MatchOption r (AllWithin (Tests xs false) (enumerate_from 0 xs) 0 (length (enumerate_from 0 xs))) (λ i. (i < length (enumerate_from 0 xs)) × HoldsAt (Tests xs true) (enumerate_from 0 xs) i × AllWithin (Tests xs false) (enumerate_from 0 xs) 0 i) → MatchOption r (well (map f xs) ≡ true) (FirstBad well bad (map f xs))
-  first_bad [] None h = none
-  first_bad [] (Some i) (l, e, h) = absurd (omega arith)
-  first_bad (x ∷ xs) None h = let n = length-enumerate_from 0 (x ∷ xs) in ap (λ l. well (map f l)) (sym (take_all (length (x ∷ xs)) (x ∷ xs) (omega arith))) ∙ well_before (x ∷ xs) x (length (x ∷ xs)) (omega arith) (subst (AllWithin (Tests (x ∷ xs) false) (enumerate_from 0 (x ∷ xs)) 0) n h)
-  first_bad (x ∷ xs) (Some i) (l, e, h) = let n = length-enumerate_from 0 (x ∷ xs) in first_bad_at (x ∷ xs) x i (omega arith) e h
+  first_of : (xs : List A) (r : Option ℕ) → MatchOption r (AllWithin (Tests xs false) (enumerate_from 0 xs) 0 (length (enumerate_from 0 xs))) (λ i. (i < length (enumerate_from 0 xs)) × HoldsAt (Tests xs true) (enumerate_from 0 xs) i × AllWithin (Tests xs false) (enumerate_from 0 xs) 0 i) → MatchOption r (well (map f xs) ≡ true) (FirstBad well bad (map f xs))
+  first_of [] None h = none
+  first_of [] (Some i) (l, e, h) = absurd (omega arith)
+  first_of (x ∷ xs) None h = let n = length-enumerate_from 0 (x ∷ xs) in ap (λ l. well (map f l)) (sym (take_all (length (x ∷ xs)) (x ∷ xs) (omega arith))) ∙ well_before (x ∷ xs) x (length (x ∷ xs)) (omega arith) (subst (AllWithin (Tests (x ∷ xs) false) (enumerate_from 0 (x ∷ xs)) 0) n h)
+  first_of (x ∷ xs) (Some i) (l, e, h) = let n = length-enumerate_from 0 (x ∷ xs) in first_bad_at (x ∷ xs) x i (omega arith) e h
+
+  -- what `position` finds, where it is given each element with its number
+  pub first_bad : {S E F : Type 0} {steps : S → Option E → S → Type 0} {v : E → ℕ × A} {g : Mut F (E × Unit {0}) Bool} {s : S} (u : S) (h : F) (xs : List A) (r : Option ℕ) → (ys : List E) × (o : Option E) × (j : F) × YieldsThen steps s ys o u × FoldsTo (λ p x q. Called g p (x, tt) false q) h ys j × MatchOption o (r ≡ None) (λ x. (r ≡ Some (length ys)) × ((k : F) × Called g j (x, tt) true k)) → YieldsList steps v s (enumerate_from 0 xs) → ((x : E) (q : F) → Called g h (x, tt) true q → Tests xs true (v x)) → ((x : E) (q : F) → Called g h (x, tt) false q → (q ≡ h) × Tests xs false (v x)) → MatchOption r (well (map f xs) ≡ true) (FirstBad well bad (map f xs))
+  first_bad u h xs r ran chain passed failed = first_of xs r (IsFirst-from_position u h r (Tests xs true) (Tests xs false) ran chain passed failed)
 
 -- one more name that may stand behind those held
 pub holdable_more : (ks : List Name) (x : Name) → holdable ks ≡ true → misplaced ks x ≡ false → holdable (ks ++ (x ∷ [])) ≡ true
