@@ -37,7 +37,7 @@ impl SyntheticModule {
         }
     }
 
-    // Declares and exports a cell for an entry that begins at this byte.
+    // Declares and exports a cell for an entry that begins at this byte. No `Placed` entry: how it was read is not the module's affair.
     pub(crate) fn add(
         &mut self,
         heap: Global,

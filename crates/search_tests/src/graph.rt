@@ -6,7 +6,7 @@ ghost use Rattle.search_tests.specs.Walks.{cycles};
 
 use search::Node;
 
-/// Where the arrows of the node lead.
+/// Where the arrows of the node lead; by a `match`, since most nodes have none.
 fn arrows(node: Node) -> &'static [usize]
     ensures { result.now ≡ cycles node.value }
 {
