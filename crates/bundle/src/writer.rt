@@ -39,6 +39,7 @@ fn head(e: &Entry<'_>) -> [u8; 3]
     requires { good (plain e.now) ≡ true }
     ensures { result ≡ head_bytes (plain e.now) }
 {
+    // Both lengths fit, by what is required: nothing is lost by `as`.
     let [high, low] = (e.payload.len() as u16).to_be_bytes();
     [64 * u8::from(e.kind) + e.key.len() as u8, high, low]
 }

@@ -19,7 +19,8 @@ fn is_bad_behind(before: &[Row<'_>], row: &Row<'_>) -> bool
     before.len() >= MAX_ROWS || !row.is_good()
 }
 
-// Refuses rows that a mapped host cannot have, at the number of the first bad one. A function beside `check_keys`: one for both would take the test as a closure, and each is but one call of `position`.
+// Refuses rows that a mapped host cannot have, at the number of the first bad one. Beside `check_keys`: one for both would
+// take the test as a closure, and its contract would have to say what that answers, which is longer than both bodies.
 pub(crate) fn check_rows(rows: &[Row<'_>]) -> Result<(), Denial>
     ensures { MatchResult result (λ _. good_rows (plain_all rows.now) ≡ true) (λ d. (n : ℕ) × (d ≡ malformed_at n) × FirstBadRow (plain_all rows.now) n) }
 {

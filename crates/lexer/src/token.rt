@@ -6,9 +6,10 @@ pub enum Token<'a> {
     Word(&'a [u8]),
     Text(&'a [u8]),
     Number(&'a [u8]),
+    // a byte as it stands in the text
     Mark(u8),
-    // no token begins like this, or it does not end as it should: a token and no error, since the grammar takes it as it takes
-    // any token that may not stand where it does
+    // no token begins like this, or it does not end as it should: a token and no error, since the grammar refuses it as
+    // it does any misplaced token
     Malformed,
     // the text's end
     End,

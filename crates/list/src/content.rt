@@ -5,7 +5,8 @@ ghost use Rattle.list.specs.Reading.{content, Decodes, ReadsContent};
 
 use record::Value;
 
-// What stands in the 2 high bits of an entry's first byte. Not the kinds of payloads in a bundle: those number other things.
+// What stands in the 2 high bits of an entry's first byte. Not the kinds of payloads in a bundle, which number other
+// things; so the error is not theirs either.
 #[derive(Clone, Copy)]
 pub(crate) enum ValueKind {
     Undefined,

@@ -37,7 +37,8 @@ impl SyntheticModule {
         }
     }
 
-    // Declares and exports a cell for an entry that begins at this byte. No `Placed` entry: how it was read is not the module's affair.
+    // Declares and exports a cell for an entry that begins at this byte. By the entry and the byte: the module does not
+    // depend on the reader's type.
     pub(crate) fn add(
         &mut self,
         heap: Global,

@@ -5,7 +5,7 @@ use std::alloc::{AllocError, Global};
 use std::process::Abort;
 use std::test::Fail;
 
-// The number of the cause and the byte of a refusal, or none, as `err` answers.
+// The number of the cause and the byte of a refusal; none where the bytes are read. By number, since a cause cannot be compared.
 fn refused(heap: Global, bytes: &[u8]) -> Option<(Option<u8>, usize)> {
     let fault = read(heap, bytes).err()?;
     Some((fault.cause.number(), fault.byte))

@@ -42,7 +42,7 @@ impl fmt::Display for Shown<'_> {
     fn fmt<W: fmt::Write>(&self, f: &mut fmt::Formatter<W>) -> fmt::Result {
         for b in self.0 {
             match *b {
-                32..=126 => f.write_char(*b as char)?,
+                32..=126 => f.write_char(char::from(*b))?,
                 _ => write!(f, "\\x{b:02x}")?,
             }
         }

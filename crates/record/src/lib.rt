@@ -1,3 +1,4 @@
+// Records of modules, what refuses them, and the hosts and kinds that they come from.
 #![tactic(auto)]
 
 mod cells;

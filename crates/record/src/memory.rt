@@ -5,7 +5,7 @@ ghost use Rattle.record.specs.Memory.{memory_denial, memory_fault};
 use crate::denial::{Cause, Denial, LoadFault};
 use std::alloc::AllocError;
 
-// One `From` for each of the two.
+// One for each type, from whatever becomes an `AllocError`.
 impl<E: Into<AllocError>> From<E> for Denial {
     ghost from_gives = { λ _ r. r ≡ memory_denial };
 

@@ -20,7 +20,7 @@ impl OneCell {
     pub fn new(heap: Global, value: Value) -> Result<OneCell, AllocError>
         ensures { IfOk result (λ k. plain k.same ≡ one_cell) }
     {
-        // Written out: a record of nothing, to be filled, would be a public call for this place and one in `list`.
+        // Written out: a public constructor of an empty record would serve only here and in `list`.
         let same = Record {
             requests: Vec::new(heap),
             imports: Vec::new(heap),

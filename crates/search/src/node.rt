@@ -15,6 +15,7 @@ impl Node {
         ensures { MatchOption result (32 ≤ number) (λ x. x.value ≡ number) }
     {
         if number < 32 {
+            // A number below 32 fits, so nothing is lost by `as`.
             Some(Node {
                 value: number as u8,
             })
@@ -28,7 +29,7 @@ impl Node {
         ensures value { result ≡ self.value }
         ensures bound { result < 32 }
     {
-        self.value as usize
+        usize::from(self.value)
     }
 }
 

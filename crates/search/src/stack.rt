@@ -13,6 +13,7 @@ struct Visit {
 }
 
 /// The indices and low marks of the nodes, and the nodes on the stack. All of a fixed size, since no search allocates.
+/// `next` is how many nodes were met; no list has that length, since nodes are popped.
 #[derive(Drop)]
 pub struct Stack {
     visits: [Visit; 32],

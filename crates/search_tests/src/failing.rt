@@ -58,9 +58,8 @@ impl Walk for Failing<'_> {
     }
 
     fn act(&mut self, node: Node) -> Result<(), Failed> {
-        let v = node.number();
-        if v == self.at.number() {
-            Err(Failed { at: v })
+        if node == self.at {
+            Err(Failed { at: node.number() })
         } else {
             Ok(())
         }
