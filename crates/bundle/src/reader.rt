@@ -1,12 +1,11 @@
 // Reading a bundle.
 ghost use Rattle.std.specs.Prelude.{◌≡◌, map, IfOk};
 ghost use Rattle.bundle.specs.Format.{plain_read};
-ghost use Rattle.record.specs.Denials.{malformed_at};
 ghost use Rattle.bundle.specs.Bundles.{denial, Reads, InvertsWriting};
 
 use crate::entry::Entry;
 use entries::{Fault, Placed};
-use record::{Cause, Denial};
+use record::Denial;
 use std::alloc::{AllocError, Global};
 
 // How many bytes a bundle has at most.

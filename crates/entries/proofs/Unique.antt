@@ -14,10 +14,6 @@ module _ {E : Type 0} (F : Format E) where
   all_encoded_append [] fs = refl
   all_encoded_append (e ∷ es) fs = ap (λ l. F.encoded e ++ l) (all_encoded_append es fs) ∙ sym (append_assoc (F.encoded e) (all_encoded F es) (all_encoded F fs))
 
-  -- before the first entry
-  pub front_none : (s : List ℕ) → Front F s [] s
-  front_none s = record { all = refl; well = refl }
-
   -- what makes a list well formed
   pub record Parts (es : List E) : Type 0 where
     pub each : every F.good es ≡ true

@@ -2,12 +2,7 @@
 use Rattle.std.proofs.Common.{◌≡◌, true, false, not, leb, List, [], ◌∷◌, ◌++◌, map, length, Some, None, Option, sym, refl, ap, ◌∙◌, subst, inl, inr, arith, length-append}
 use mathlib.Core.List.Memᴰ
 use mathlib.Core.List.{Memᴰ}
-use Rattle.std.specs.List.{slice_get, FoldsTo}
-use Rattle.std.specs.Fn.{Called}
-use Rattle.std.specs.Iterator.{Drains}
-use denote.Param.Members.{Mut}
-use Rattle.std.proofs.lemmas.Fn.{fold_over}
-use Rattle.std.proofs.lemmas.Iterator.{YieldsList}
+use Rattle.std.specs.List.{slice_get}
 use Rattle.std.specs.Str.{bytes_eq}
 use Rattle.std.proofs.lemmas.Slice.Eq.{bytes_eq-Decides}
 use Rattle.std.proofs.lemmas.Bool.{and_parts, and_from, or_parts, not-false, le-leb, leb-false}
@@ -15,9 +10,8 @@ use Rattle.std.specs.Option.{option_and_then}
 use Rattle.names.specs.Names.{Name, every}
 use Rattle.std.proofs.lemmas.List.Folds.{list_all-append}
 use Rattle.outcome.specs.declared.Outcome.{Outcome}
-use Rattle.outcome.specs.declared.Outcome.TheVariants.{Nothing}
-use Rattle.outcome.specs.Joining.{joined, joined_all, SameMembers}
-use Rattle.outcome.proofs.Joins.{laws, joined_all_push}
+use Rattle.outcome.specs.Joining.{SameMembers}
+use Rattle.outcome.proofs.Joins.{laws}
 use Rattle.record.specs.declared.denial.Denial.{Denial}
 use Rattle.host.specs.Holding.{RefusesKeys}
 use Rattle.host.specs.MappedHosts.{Row, says, placed, good_row, good_rows, bad_row_behind, mapped_to, RefusesToMap, no_memory, bad_key, OrderOfRowsAndRowsWrittenTwiceDoNotAffectAnAnswer}
@@ -29,13 +23,6 @@ good_more rows r well m =
     let few = leb-false 64 (length rows) u.0 in
     let q = and_parts (every good_row rows) (leb (length rows) 64) well in
     and_from _ _ (list_all-append good_row rows (r ∷ []) ∙ and_from _ _ q.0 (and_from _ _ (not-false (good_row r) u.1) refl)) (le-leb _ 64 (let n = length-append rows (r ∷ []) in omega arith))
-
--- a chain that gives outcomes, and a fold that joins them
-pub joined_over : {S A C F : Type 0} {steps : S → Option A → S → Type 0} {g : Mut F (C × (A × Unit {0})) C} {f : F} {s : S} {a r : C} (v : A → Outcome Name) (w : C → Outcome Name) → (xs : List A) × (f' : F) × Drains steps s xs × FoldsTo {P = F × C} (λ p x q. Called g p.0 (p.1, (x, tt)) q.1 q.0) (f, a) xs (f', r) → w a ≡ Nothing → ((b : C) (x : A) (c : C) (h : F) → Called g f (b, (x, tt)) c h → (w c ≡ joined bytes_eq (w b) (v x)) × (h ≡ f)) → (all : List (Outcome Name)) → YieldsList steps v s all → w r ≡ joined_all bytes_eq all
-joined_over {steps = steps} {g = g} {f = f} {s = s} {a = a} {r = r} v w ran none step all y =
-    fold_over steps v g (λ os b. w b ≡ joined_all bytes_eq os) f
-    (λ os b x c h j k. let q = step b x c h k in (q.0 ∙ ap (λ o. joined bytes_eq o (v x)) j ∙ sym (joined_all_push bytes_eq bytes_eq-Decides os (v x)), q.1))
-    s all a r y.runs none ran
 
 -- what is said by the same rows
 said_again : (f : Row → Outcome Name) (rows others : List Row) → SameMembers rows others → SameMembers (map f others) (map f rows)

@@ -1,5 +1,5 @@
 // The mapped host: rows say where a specifier leads from a referrer.
-ghost use Rattle.std.specs.Prelude.{◌≡◌, IfOk, MatchResult};
+ghost use Rattle.std.specs.Prelude.{IfOk, MatchResult};
 ghost use Rattle.host.specs.Holding.{all_now, EachKeyHasItsNumberAsItsPlace};
 ghost use Rattle.host.specs.Held.{held};
 ghost use Rattle.host.specs.MappedHosts.{plain_all, mapped_hosting, Maps, RefusesToMap, FollowsRows, OrderOfRowsAndRowsWrittenTwiceDoNotAffectAnAnswer};

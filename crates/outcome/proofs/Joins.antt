@@ -1,10 +1,16 @@
 -- Order, bracketing and repetition do not affect a join.
-use Rattle.std.proofs.Common.{◌≡◌, ℕ, Bool, true, false, cond, List, [], ◌∷◌, ◌++◌, Decides, sym, refl, ap, ◌∙◌, arith}
+use Rattle.std.proofs.Common.{Option, map, ◌≡◌, ℕ, Bool, true, false, cond, List, [], ◌∷◌, ◌++◌, Decides, sym, refl, ap, ◌∙◌, arith}
 use mathlib.Core.List.{Memᴰ}
-use Rattle.std.specs.List.{fold}
+use denote.Param.Members.{Mut}
+use Rattle.std.specs.Fn.{Called}
+use Rattle.std.specs.Iterator.{Drains}
+use Rattle.std.specs.List.{FoldsTo}
+use Rattle.std.proofs.lemmas.Fn.{fold_over}
+use Rattle.std.proofs.lemmas.Iterator.{YieldsList}
+use Rattle.std.proofs.lemmas.List.{map-append}
 use Rattle.outcome.specs.declared.Outcome.{Outcome}
 use Rattle.outcome.specs.declared.Outcome.TheVariants.{Nothing, One, Several}
-use Rattle.outcome.specs.Joining.{joined, joined_all, by_value, valued, valued_all, OrderBracketingAndRepetitionDoNotAffectAJoin}
+use Rattle.outcome.specs.Joining.{joined, joined_all, OrderBracketingAndRepetitionDoNotAffectAJoin}
 
 module _ {A : Type 0} (same : A → A → Bool) (D : (x y : A) → Decides (same x y) (x ≡ y)) where
   pick : A → Bool → Outcome A
@@ -91,19 +97,6 @@ module _ {A : Type 0} (same : A → A → Bool) (D : (x y : A) → Decides (same
     lists_order_and_repetition = λ os ps m. sym (absorbs_all ps os m.back) ∙ order (joined_all same ps) (joined_all same os) ∙ absorbs_all os ps m.there;
   }
 
-module _ {A V : Type 0} (value : A → V) (same : V → V → Bool) where
-  chosen : (t : Bool) (x : A) → valued value (cond t (One x) Several) ≡ cond t (One (value x)) Several
-  chosen true x = refl
-  chosen false x = refl
-
-  -- a join by values gives the join of the values
-  pub valued_joined : (a b : Outcome A) → valued value (joined (by_value value same) a b) ≡ joined same (valued value a) (valued value b)
-  valued_joined Nothing b = refl
-  valued_joined (One x) Nothing = refl
-  valued_joined (One x) (One y) = chosen (same (value x) (value y)) x
-  valued_joined (One x) Several = refl
-  valued_joined Several b = refl
-
 module _ {A : Type 0} (same : A → A → Bool) (D : (x y : A) → Decides (same x y) (x ≡ y)) where
   with_nothing : (o : Outcome A) → joined same o Nothing ≡ o
   with_nothing Nothing = refl
@@ -111,17 +104,12 @@ module _ {A : Type 0} (same : A → A → Bool) (D : (x y : A) → Decides (same
   with_nothing Several = refl
 
   -- one more at the end
-  pub joined_all_push : (os : List (Outcome A)) (o : Outcome A) → joined_all same (os ++ (o ∷ [])) ≡ joined same (joined_all same os) o
+  joined_all_push : (os : List (Outcome A)) (o : Outcome A) → joined_all same (os ++ (o ∷ [])) ≡ joined same (joined_all same os) o
   joined_all_push os o = (laws same D).lists_bracketing os (o ∷ []) ∙ ap (joined same (joined_all same os)) (with_nothing o)
 
-module _ {A V : Type 0} (value : A → V) (same : V → V → Bool) (D : (x y : V) → Decides (same x y) (x ≡ y)) where
-  folded_onto : (os : List (Outcome A)) (a : Outcome A) → valued value (fold (joined (by_value value same)) a os) ≡ joined same (valued value a) (joined_all same (valued_all value os))
-  folded_onto [] a = sym (with_nothing same D (valued value a))
-  folded_onto (o ∷ os) a =
-      folded_onto os (joined (by_value value same) a o)
-      ∙ ap (λ q. joined same q (joined_all same (valued_all value os))) (valued_joined value same a o)
-      ∙ (laws same D).bracketing (valued value a) (valued value o) (joined_all same (valued_all value os))
-
-  -- joined one after another, from the front
-  pub folded : (os : List (Outcome A)) → valued value (fold (joined (by_value value same)) Nothing os) ≡ joined_all same (valued_all value os)
-  folded os = folded_onto os Nothing
+-- what a chain gives, joined one after another: v tells the outcome of what it gives, and w that of what has been joined
+pub joined_over : {S A B C F V : Type 0} (same : V → V → Bool) → ((x y : V) → Decides (same x y) (x ≡ y)) → {steps : S → Option A → S → Type 0} {g : Mut F (C × (A × Unit {0})) C} {f : F} {s : S} {a r : C} {u : A → B} (v : B → Outcome V) (w : C → Outcome V) → (xs : List A) × (f' : F) × Drains steps s xs × FoldsTo {P = F × C} (λ p x q. Called g p.0 (p.1, (x, tt)) q.1 q.0) (f, a) xs (f', r) → w a ≡ Nothing → ((b : C) (x : A) (c : C) (h : F) → Called g f (b, (x, tt)) c h → (w c ≡ joined same (w b) (v (u x))) × (h ≡ f)) → (all : List B) → YieldsList steps u s all → w r ≡ joined_all same (map v all)
+joined_over same D {steps = steps} {g = g} {f = f} {s = s} {a = a} {r = r} {u = u} v w ran none step all y =
+    fold_over steps u g (λ ys b. w b ≡ joined_all same (map v ys)) f
+    (λ ys b x c h j k. let q = step b x c h k in (q.0 ∙ ap (λ o. joined same o (v (u x))) j ∙ sym (joined_all_push same D (map v ys) (v (u x))) ∙ ap (joined_all same) (sym (map-append v ys (u x ∷ []))), q.1))
+    s all a r y.runs none ran

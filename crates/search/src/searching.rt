@@ -31,7 +31,8 @@ impl<W: Walk> Searching<'_, W> {
             _ => return Ok(()),
         }
         self.enter(node);
-        // `for i in 0..` was tried, and does not prove: it ends at `usize::MAX`, where no call has said that no arrow is left.
+        // By hand: `for i in 0..` ends at `usize::MAX`, where no call has said that no arrow is left, so its proof stays open;
+        // `0..=usize::MAX` with a `break` is no plainer.
         let mut i = 0;
         while let Some(next) = self.walk.arrow(node, i) {
             self.visit(next)?;
