@@ -1,8 +1,11 @@
 // Keys: segments joined by `/`.
 ghost use Rattle.std.specs.Prelude.{◌≡◌, Decides};
 ghost use Rattle.names.specs.Names.{every};
-ghost use Rattle.names.specs.Keys.{segment_byte, segment, Splits, Key, key};
+ghost use Rattle.names.specs.Keys.{segment_byte, segment, parts, Splits, Key, key};
 ghost use Rattle.std.specs.Option.{option_map};
+
+// A key has at most this many bytes.
+const LONGEST_KEY: usize = 63;
 
 fn is_segment_byte(b: u8) -> bool
     ensures { result ≡ segment_byte b }
@@ -33,10 +36,22 @@ pub fn split_segment(path: &[u8]) -> (&[u8], Option<&[u8]>)
     }
 }
 
+// Whether all parts of a path are segments. By `split_segment`, so that a key comes apart as that call promises. Not compiled
+// into `is_key`, so that this is, into its callers.
+#[inline(never)]
+fn are_segments(path: &[u8]) -> bool
+    ensures { result ≡ every segment (parts path.now) }
+{
+    match split_segment(path) {
+        (last, None) => is_segment(last),
+        (first, Some(rest)) => is_segment(first) && are_segments(rest),
+    }
+}
+
 // Whether these are 1 to 63 bytes that are segments joined by `/`.
 pub fn is_key(bytes: &[u8]) -> bool
     ensures value { result ≡ key bytes.now }
     ensures exactly { Decides result (Key bytes.now) }
 {
-    bytes.len() <= 63 && bytes.split(|b| *b == b'/').all(is_segment)
+    bytes.len() <= LONGEST_KEY && are_segments(bytes)
 }
