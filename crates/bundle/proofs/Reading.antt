@@ -1,36 +1,47 @@
 -- From entries that were read to a bundle.
-use Rattle.std.proofs.Common.{◌≡◌, ℕ, ◌≤◌, true, ◌⊎◌, List, [], ◌∷◌, map, length, Ok, Err, Result, Vec, vec_items, sym, refl, ap, ◌∙◌, inl, inr, append-nil, arith}
+use Rattle.std.proofs.Common.{◌≡◌, ℕ, ◌≤◌, true, ◌⊎◌, List, [], ◌∷◌, length, Ok, Err, Result, Vec, vec_items, sym, refl, ap, ◌∙◌, inl, inr, append-nil, arith}
+use Rattle.std.specs.List.{AllZip}
+use Rattle.std.specs.Result.{MatchResult, IsErrAnd}
+use Rattle.std.proofs.lemmas.Result.{err_from_is_err_and}
 use Rattle.record.specs.declared.denial.Denial.{Denial}
 use Rattle.std.specs.declared.alloc.Global.{Global}
 use Rattle.entries.specs.declared.fault.Fault.{Fault}
 use Rattle.entries.specs.declared.fault.Fault.TheVariants.{Stopped, OutOfMemory}
 use Rattle.entries.specs.declared.placed.Placed.{Placed}
-use Rattle.entries.specs.Reading as entries
-use Rattle.entries.specs.Reading.{all_contents}
+use Rattle.entries.specs.Reading.{all_contents, ReadsAs}
 use Rattle.bundle.specs.declared.entry.Entry as code
 use Rattle.entries.specs.Entries.{all_encoded, well_formed}
 use Rattle.entries.proofs.Unique.{means_only}
-use Rattle.bundle.specs.Format.{Entry, format, plain, plain_all}
+use Rattle.bundle.specs.Format.{Entry, format, plain, plain_all, plain_read}
 use Rattle.bundle.specs.Bundles.{denial, IsOutOfMemory, too_long, stops, Reads, InvertsWriting}
 use Rattle.bundle.proofs.Lawful.{lawful}
 
--- a refusal to read
-pub refuses : (s : List ℕ) (r : Result (Vec (Placed code.Entry) Global) Fault) (d : Denial) → length s ≤ 65536 → entries.Reads format plain s r → (fault : Fault) × (r ≡ Err fault) × (d ≡ denial fault) → Reads s (Err d)
-refuses s r d short h (fault, is, made) = rw made (by fault (rw is at h))
-  where
-    by : (fault : Fault) → entries.Reads format plain s (Err fault) → Reads s (Err (denial fault))
-    by (Stopped why byte) h = inr (stops why short (means_only format lawful s (Err (why, byte)) h))
-    by (OutOfMemory e) h = inl refl
+-- what is made of an entry and its byte
+abbrev pub gives : Placed code.Entry → code.Entry → Type 0
+gives placed e = e ≡ placed.entry
 
 -- all entries
-pub all_read : (s : List ℕ) (v : Vec (Placed code.Entry) Global) (xs : List code.Entry) → length s ≤ 65536 → entries.Reads format plain s (Ok v) → xs ≡ map (λ x. x.entry) (vec_items v) → Reads s (Ok (plain_all xs))
-all_read s v xs short h is =
-    let same : plain_all xs ≡ all_contents plain (vec_items v) = ap plain_all is ∙ contents_of (vec_items v) in
-    (short, means_only format lawful s (Ok (plain_all xs)) (rw same h.0))
+pub all_read : (s : List ℕ) (v : Vec code.Entry Global) → length s ≤ 65536 → ReadsAs format plain gives s (Ok v) → Reads s (Ok (plain_all (vec_items v)))
+all_read s v short (xs, made, means, placed) =
+    (short, means_only format lawful s (Ok (plain_all (vec_items v))) (rw (contents_of xs (vec_items v) made) at means))
   where
-    contents_of : (ys : List (Placed code.Entry)) → plain_all (map (λ x. x.entry) ys) ≡ all_contents plain ys
-    contents_of [] = refl
-    contents_of (y ∷ ys) = ap (λ l. plain y.entry ∷ l) (contents_of ys)
+    contents_of : (xs : List (Placed code.Entry)) (ys : List code.Entry) → AllZip gives xs ys → all_contents plain xs ≡ plain_all ys
+    contents_of [] [] h = refl
+    contents_of [] (y ∷ ys) h = absurd h
+    contents_of (x ∷ xs) [] h = absurd h
+    contents_of (x ∷ xs) (y ∷ ys) h = rw (h.0, contents_of xs ys h.1) refl
+
+-- a refusal to read
+pub refuses : (s : List ℕ) (fault : Fault) → length s ≤ 65536 → ReadsAs format plain gives s (Err fault) → Reads s (Err (denial fault))
+refuses s (Stopped why byte) short h = inr (stops why short (means_only format lawful s (Err (why, byte)) h))
+refuses s (OutOfMemory e) short h = inl refl
+
+-- what reading its entries answers is what reading a bundle answers
+pub answers : (s : List ℕ) (r : Result (Vec code.Entry Global) Fault) (q : Result (Vec code.Entry Global) Denial) → length s ≤ 65536 → ReadsAs format plain gives s r → MatchResult r (λ v. q ≡ Ok v) (λ fault. IsErrAnd q (λ d. d ≡ denial fault)) → Reads s (plain_read q)
+answers s (Ok v) q short h is = rw is (all_read s v short h)
+answers s (Err fault) q short h is =
+    let (d, made, e) = err_from_is_err_and q is in
+    rw (made, e) (refuses s fault short h)
 
 -- what is read exactly inverts writing
 pub inverts : (s : List ℕ) (r : Result (List Entry) Denial) → Reads s r → InvertsWriting s r

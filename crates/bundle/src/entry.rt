@@ -1,8 +1,9 @@
 // The entries of a bundle: one for each module.
+ghost use Rattle.std.specs.Prelude.{◌≡◌};
 ghost use Rattle.bundle.specs.Format.{Entry as BundleEntry, format, plain};
 
 use crate::kind::PayloadKind;
-use entries::Encoded;
+use entries::{Encoded, Placed};
 use names::is_key;
 
 // A module of a bundle: its key, and its payload.
@@ -11,6 +12,15 @@ pub struct Entry<'a> {
     pub kind: PayloadKind,
     pub key: &'a [u8],
     pub payload: &'a [u8],
+}
+
+// A bundle's entries are kept without their bytes.
+impl<'a> From<Placed<Entry<'a>>> for Entry<'a> {
+    ghost from_gives = { λ placed e. e ≡ placed.entry };
+
+    fn from(placed: Placed<Entry<'a>>) -> Entry<'a> {
+        placed.entry
+    }
 }
 
 impl<'a> Encoded<'a> for Entry<'a> {

@@ -1,12 +1,12 @@
 // Reading a bundle.
-ghost use Rattle.std.specs.Prelude.{◌≡◌, map, IfOk};
+ghost use Rattle.std.specs.Prelude.{◌≡◌};
 ghost use Rattle.bundle.specs.Format.{plain_read};
 ghost use Rattle.bundle.specs.Bundles.{denial, Reads, InvertsWriting};
 
 use crate::entry::Entry;
-use entries::{Fault, Placed};
+use entries::Fault;
 use record::Denial;
-use std::alloc::{AllocError, Global};
+use std::alloc::Global;
 
 // How many bytes a bundle has at most.
 pub(crate) const LONGEST: usize = 65536;
@@ -21,13 +21,6 @@ pub(crate) fn denied(fault: Fault) -> Denial
     }
 }
 
-// The entries without their bytes.
-fn unplaced<'a>(heap: Global, all: &[Placed<Entry<'a>>]) -> Result<Vec<Entry<'a>>, AllocError>
-    ensures { IfOk result (λ v. v.items ≡ map (λ x. x.entry) all.now) }
-{
-    all.iter().map(|placed| placed.entry).collect(heap)
-}
-
 // The modules of a bundle, which take the places 0, 1, .. in this order.
 pub fn read<'a>(heap: Global, bytes: &'a [u8]) -> Result<Vec<Entry<'a>>, Denial>
     ensures reads { Reads bytes.now (plain_read result) }
@@ -36,6 +29,5 @@ pub fn read<'a>(heap: Global, bytes: &'a [u8]) -> Result<Vec<Entry<'a>>, Denial>
     if bytes.len() > LONGEST {
         return Err(Denial::malformed(LONGEST));
     }
-    let all = entries::read::<Entry<'a>>(heap, bytes).map_err(denied)?;
-    Ok(unplaced(heap, &all)?)
+    entries::read_as::<Entry<'a>, Entry<'a>>(heap, bytes).map_err(denied)
 }

@@ -1,4 +1,4 @@
-// The entries of a bundle with their bytes.
+// The entries of a bundle with their bytes, and without.
 use bundle::{Entry, PayloadKind};
 use names::same_name;
 use std::test::Fail;
@@ -12,5 +12,16 @@ fn entries_are_read_with_their_bytes(rt: HostRuntime) -> Result<(), Fail> {
     assert!(rt; same_name(all[0].entry.key, b"a/b"));
     assert!(rt; matches!(all[1].entry.kind, PayloadKind::List));
     assert!(rt; same_name(all[1].entry.key, b"c"));
+    Ok(())
+}
+
+#[test]
+fn entries_are_read_as_what_is_made_of_them(rt: HostRuntime) -> Result<(), Fail> {
+    let bytes = b"\x03\x00\x06a/blet x;\x41\x00\x00c";
+    let read = entries::read_as::<Entry<'_>, Entry<'_>>(rt.alloc(), bytes);
+    let all = read.ok().ok_or("refused")?;
+    assert_eq!(rt; all.len(), 2);
+    assert!(rt; same_name(all[0].payload, b"let x;"));
+    assert!(rt; same_name(all[1].key, b"c"));
     Ok(())
 }

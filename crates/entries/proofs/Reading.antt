@@ -1,6 +1,10 @@
 -- Entries being read: what is known behind those read so far.
-use Rattle.std.proofs.Common.{◌≡◌, ◌<◌, ℕ, zero, suc, get_or, take, ◌+◌, ◌-◌, ◌≤◌, List, [], ◌∷◌, ◌++◌, map, length, Some, None, Ok, sym, ap, ◌∙◌, subst, arith, length-append}
+use Rattle.std.proofs.Common.{◌≡◌, ◌<◌, ℕ, zero, suc, get_or, take, ◌+◌, ◌-◌, ◌≤◌, List, [], ◌∷◌, ◌++◌, map, length, Some, None, Ok, Err, Result, Vec, vec_items, refl, sym, ap, ◌∙◌, subst, arith, length-append}
 use lib.ListN.{length-map}
+use Rattle.std.specs.List.{AllZip}
+use Rattle.std.specs.declared.alloc.Global.{Global}
+use Rattle.entries.specs.declared.fault.Fault.{Fault}
+use Rattle.entries.specs.declared.fault.Fault.TheVariants.{Stopped, OutOfMemory}
 use Rattle.std.proofs.lemmas.List.{map_push, nil_from_length}
 use Rattle.names.specs.Names.{Name, among}
 use Rattle.entries.specs.declared.stop.Stop.{Stop}
@@ -9,7 +13,7 @@ use Rattle.entries.specs.declared.stop.Stop.TheVariants.{TooMany, Repeated}
 use Rattle.entries.specs.declared.placed.Placed.{Placed}
 use Rattle.entries.specs.Seen.{refusal}
 use Rattle.entries.specs.Entries.{Format, all_encoded, Front, Begins, Refused, Stops, Means}
-use Rattle.entries.specs.Reading.{all_contents, PlacedFrom, TakesFirst}
+use Rattle.entries.specs.Reading.{all_contents, PlacedFrom, TakesFirst, Reads, ReadsAs}
 use Rattle.entries.proofs.Seeing.{RefusedFor, refused_since, passed_since}
 use Rattle.entries.proofs.Unique.{parts, front_more}
 
@@ -35,7 +39,7 @@ module _ {R E : Type 0} (F : Format E) (contents : R → E) where
       omega (arith, length-append (F.encoded (contents x.entry)) (all_encoded F (all_contents contents (take i xs))))
 
   module _ (s : List ℕ) (xs : List (Placed R)) (names : List Name) (rest : List ℕ) (f : SoFar F contents s xs names rest) where
-    byte_is : length (all_encoded F (all_contents contents xs)) ≡ length s - length rest
+    pub byte_is : length (all_encoded F (all_contents contents xs)) ≡ length s - length rest
     byte_is = let n = length-append (all_encoded F (all_contents contents xs)) rest in let m = ap length f.front.all in omega arith
 
     pub fits : length rest ≤ length s
@@ -77,3 +81,37 @@ module _ {R E : Type 0} (F : Format E) (contents : R → E) where
             are = ap (λ l. l ++ (n ∷ [])) f.are ∙ ap (λ l. map F.name (all_contents contents xs) ++ (l ∷ [])) is ∙ sym (map_push F.name (all_contents contents xs) (contents x)) ∙ ap (map F.name) (sym pushed);
             placed = placed_more 0 xs y f.placed (omega (arith, byte_is));
           })
+
+-- what was made of each of the entries so far
+pub record MadeSoFar {R E T : Type 0} (F : Format E) (contents : R → E) (gives : Placed R → T → Type 0) (s : List ℕ) (ys : List T) (names : List Name) (rest : List ℕ) : Type 0 where
+  pub xs : List (Placed R)
+  pub so_far : SoFar F contents s xs names rest
+  pub made : AllZip gives xs ys
+
+module _ {R E T : Type 0} (F : Format E) (contents : R → E) (gives : Placed R → T → Type 0) where
+  made_push : (xs : List (Placed R)) (ys : List T) (x : Placed R) (y : T) → AllZip gives xs ys → gives x y → AllZip gives (xs ++ (x ∷ [])) (ys ++ (y ∷ []))
+  made_push [] [] x y h g = (g, tt)
+  made_push [] (b ∷ ys) x y h g = absurd h
+  made_push (a ∷ xs) [] x y h g = absurd h
+  made_push (a ∷ xs) (b ∷ ys) x y h g = (h.0, made_push xs ys x y h.1 g)
+
+  module _ (s : List ℕ) (ys : List T) (names : List Name) (rest : List ℕ) (f : MadeSoFar F contents gives s ys names rest) where
+    -- of an entry that is read
+    pub one_more_made : (x : R) (behind : List ℕ) → TakesFirst F rest (Some (contents x, behind)) → (n : Name) → n ≡ F.name (contents x) → (y : T) → gives (record { byte = length s - length rest; entry = x }) y → (ys' : List T) (names' : List Name) → refusal names n ≡ None → ys' ≡ ys ++ (y ∷ []) → names' ≡ names ++ (n ∷ []) → MadeSoFar F contents gives s ys' names' behind
+    one_more_made x behind t n is y g ys' names' e p q = record {
+      xs = f.xs ++ (record { byte = length s - length rest; entry = x } ∷ []);
+      so_far = one_more F contents s f.xs names rest f.so_far x behind t n is _ names' e refl q;
+      made = rw p (made_push f.xs ys (record { byte = length s - length rest; entry = x }) y f.made g);
+    }
+
+-- where what is made of each entry is that entry with its byte
+pub as_they_are : {R E : Type 0} (F : Format E) (contents : R → E) (s : List ℕ) (r : Result (Vec (Placed R) Global) Fault) → ReadsAs F contents (λ x y. y ≡ x) s r → Reads F contents s r
+as_they_are {R} F contents s (Ok v) (xs, made, means, placed) = rw (same xs (vec_items v) made) (means, placed)
+  where
+    same : (xs ys : List (Placed R)) → AllZip (λ x y. y ≡ x) xs ys → ys ≡ xs
+    same [] [] h = refl
+    same [] (y ∷ ys) h = absurd h
+    same (x ∷ xs) [] h = absurd h
+    same (x ∷ xs) (y ∷ ys) h = rw (h.0, same xs ys h.1) refl
+as_they_are F contents s (Err (Stopped why byte)) h = h
+as_they_are F contents s (Err (OutOfMemory e)) h = tt

@@ -1,6 +1,7 @@
 -- What reading entries answers.
 use Rattle.std.specs.Prelude.{◌≡◌, ℕ, ◌+◌, true, List, [], ◌∷◌, ◌++◌, map, length, Some, None, Ok, Err, Option, Result, Vec, vec_items}
 use Rattle.std.specs.Borrow.{Bor}
+use Rattle.std.specs.List.{AllZip}
 use Rattle.std.specs.declared.alloc.Global.{Global}
 use Rattle.entries.specs.declared.fault.Fault.{Fault}
 use Rattle.entries.specs.declared.fault.Fault.TheVariants.{Stopped, OutOfMemory}
@@ -33,3 +34,9 @@ module _ {R E : Type 0} (F : Format E) (contents : R → E) where
   Reads s (Ok v) = Means F s (Ok (all_contents contents (vec_items v))) × PlacedFrom 0 (vec_items v)
   Reads s (Err (Stopped why byte)) = Means F s (Err (why, byte))
   Reads s (Err (OutOfMemory e)) = Unit {0}
+
+  -- the same list, with what is made of each entry and its byte in their place
+  abbrev pub ReadsAs : {T : Type 0} → (Placed R → T → Type 0) → List ℕ → Result (Vec T Global) Fault → Type 0
+  ReadsAs gives s (Ok v) = (xs : List (Placed R)) × AllZip gives xs (vec_items v) × Means F s (Ok (all_contents contents xs)) × PlacedFrom 0 xs
+  ReadsAs gives s (Err (Stopped why byte)) = Means F s (Err (why, byte))
+  ReadsAs gives s (Err (OutOfMemory e)) = Unit {0}

@@ -11,6 +11,6 @@ mod stop;
 pub use encoded::Encoded;
 pub use fault::Fault;
 pub use placed::Placed;
-pub use reader::read;
+pub use reader::{read, read_as};
 pub use seen::Seen;
 pub use stop::Stop;

@@ -1,5 +1,5 @@
 // Reading entries, one behind another.
-ghost use Rattle.entries.specs.Reading.{Reads};
+ghost use Rattle.entries.specs.Reading.{Reads, ReadsAs};
 
 use crate::encoded::Encoded;
 use crate::fault::Fault;
@@ -12,6 +12,16 @@ use std::alloc::Global;
 pub fn read<'a, E: Encoded<'a>>(heap: Global, bytes: &'a [u8]) -> Result<Vec<Placed<E>>, Fault>
     ensures { Reads E.format E.contents bytes.now result }
 {
+    read_as::<E, Placed<E>>(heap, bytes)
+}
+
+// The same, with what is made of each entry and its byte in their place, so that it needs no second list.
+pub fn read_as<'a, E: Encoded<'a>, T: From<Placed<E>> + Drop>(
+    heap: Global,
+    bytes: &'a [u8],
+) -> Result<Vec<T>, Fault>
+    ensures { ReadsAs E.format E.contents T.from_gives bytes.now result }
+{
     let mut entries = Vec::new(heap);
     let mut seen = Seen::new(heap);
     let mut rest = bytes;
@@ -22,7 +32,7 @@ pub fn read<'a, E: Encoded<'a>>(heap: Global, bytes: &'a [u8]) -> Result<Vec<Pla
         let name = entry.name();
         seen.check(name, byte)?;
         seen.add(name)?;
-        entries.push(Placed { byte, entry })?;
+        entries.push(T::from(Placed { byte, entry }))?;
         rest = behind;
     }
     Ok(entries)
