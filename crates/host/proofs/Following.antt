@@ -41,7 +41,7 @@ tells j x k r hj hk d = by (walked (directory j) (parts x)) (λ p e. walked_keep
     by (Some p) f false d = sym (other p (f p refl) (λ e. false≢true (d.1 (ap Some e))) (bytes_eq k (path p)) refl)
 
 -- a key held is a key
-held_key : (rs : List (Bor (List ℕ))) (i : ℕ) (d : Bor (List ℕ)) → every key (all_now rs) ≡ true → i < length rs → key (get_or rs i d).now ≡ true
+pub held_key : (rs : List (Bor (List ℕ))) (i : ℕ) (d : Bor (List ℕ)) → every key (all_now rs) ≡ true → i < length rs → key (get_or rs i d).now ≡ true
 held_key rs i d h l = sym (ap key (get_or-map (λ x. x.now) rs i d [] l)) ∙ every_at key (all_now rs) i [] h (let n = length-map rs (λ x. x.now) in omega arith)
 
 -- and so is the one at a place

@@ -11,7 +11,7 @@ use Rattle.list.specs.Lists.{Entry, encoded, list_format, cells_from, locals_fro
 use Rattle.list.specs.Modules.{with_entry}
 
 -- what two pushes make of a module
-one_more : (m : Module) (name : names.Name) (byte : ℕ) (ls : List Local) (cs : List Declared) → ls ≡ (with_entry m name byte).locals → cs ≡ (with_entry m name byte).cells → record { requests = m.requests; imports = m.imports; locals = ls; indirects = m.indirects; stars = m.stars; cells = cs } ≡ with_entry m name byte
+pub one_more : (m : Module) (name : names.Name) (byte : ℕ) (ls : List Local) (cs : List Declared) → ls ≡ (with_entry m name byte).locals → cs ≡ (with_entry m name byte).cells → record { requests = m.requests; imports = m.imports; locals = ls; indirects = m.indirects; stars = m.stars; cells = cs } ≡ with_entry m name byte
 one_more m name byte ls cs p q =
     ap (λ l. record { requests = m.requests; imports = m.imports; locals = l; indirects = m.indirects; stars = m.stars; cells = cs }) p
     ∙ ap (λ l. record { requests = m.requests; imports = m.imports; locals = (with_entry m name byte).locals; indirects = m.indirects; stars = m.stars; cells = l }) q

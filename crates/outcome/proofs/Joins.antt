@@ -104,7 +104,7 @@ module _ {A : Type 0} (same : A → A → Bool) (D : (x y : A) → Decides (same
   with_nothing Several = refl
 
   -- one more at the end
-  joined_all_push : (os : List (Outcome A)) (o : Outcome A) → joined_all same (os ++ (o ∷ [])) ≡ joined same (joined_all same os) o
+  pub joined_all_push : (os : List (Outcome A)) (o : Outcome A) → joined_all same (os ++ (o ∷ [])) ≡ joined same (joined_all same os) o
   joined_all_push os o = (laws same D).lists_bracketing os (o ∷ []) ∙ ap (joined same (joined_all same os)) (with_nothing o)
 
 -- what a chain gives, joined one after another: v tells the outcome of what it gives, and w that of what has been joined

@@ -84,7 +84,7 @@ closed_not_fresh p q = let z : ◌≡◌ {A = ℕ} 0 1 = cc in omega arith
 pub closed_not_open : {k : Mark} → k ≡ Closed → ¬ (k ≡ Open)
 closed_not_open p q = let z : ◌≡◌ {A = ℕ} 0 1 = cc in omega arith
 
-spoilt_not_fresh : {k : Mark} → k ≡ Spoilt → ¬ (k ≡ Fresh)
+pub spoilt_not_fresh : {k : Mark} → k ≡ Spoilt → ¬ (k ≡ Fresh)
 spoilt_not_fresh p q = let z : ◌≡◌ {A = ℕ} 0 1 = cc in omega arith
 
 pub fresh? : (k : Mark) → Dec (k ≡ Fresh)

@@ -67,14 +67,14 @@ pub record Popping {S F : Type 0} (D : Deeds S F) (v : ℕ) (s0 : Search) (a0 : 
   pub rest : (b : S) → Finishes D s0 v (down_to v s.stack) a b → Finishes D s0 v (down_to v s0.stack) a0 b
 
 module _ {S F : Type 0} {D : Deeds S F} {v : ℕ} {s0 : Search} {a0 : S} where
-  popping_more : {s : Search} {a : S} {x : ℕ} {r : List ℕ} {b : S} → Popping D v s0 a0 s a → s.stack ≡ x ∷ r → ¬ (x ≡ v) → D.closes s0 a x v b → Popping D v s0 a0 (off_stack s x r) b
+  pub popping_more : {s : Search} {a : S} {x : ℕ} {r : List ℕ} {b : S} → Popping D v s0 a0 s a → s.stack ≡ x ∷ r → ¬ (x ≡ v) → D.closes s0 a x v b → Popping D v s0 a0 (off_stack s x r) b
   popping_more {s} {a} {x} {r} {b} P e n d = record {
     within = elim (Memᴰ.cases_cons (subst (λ l. Memᴰ v l) e P.within)) [ inl q ↦ absurd (n (sym q)) | inr q ↦ q ];
     same = close_more s v x r e n ∙ P.same;
     rest = λ c k. P.rest c (subst⁻¹ (λ l. Finishes D s0 v l a c) (ap (down_to v) e ∙ down_to_other v x r n) (then_more d k));
   }
 
-  popping_ends : {s : Search} {a : S} {r : List ℕ} {b : S} → Popping D v s0 a0 s a → s.stack ≡ v ∷ r → D.closes s0 a v v b → Finishes D s0 v (down_to v s0.stack) a0 b × (off_stack s v r ≡ close s0 v)
+  pub popping_ends : {s : Search} {a : S} {r : List ℕ} {b : S} → Popping D v s0 a0 s a → s.stack ≡ v ∷ r → D.closes s0 a v v b → Finishes D s0 v (down_to v s0.stack) a0 b × (off_stack s v r ≡ close s0 v)
   popping_ends {s} {a} {r} {b} P e d = (P.rest b (subst⁻¹ (λ l. Finishes D s0 v l a b) (ap (down_to v) e ∙ down_to_same v r) (then_more d no_more)), close_end s v r e ∙ P.same)
 
 none_newest : (l : List Node) → slice_get l (length l - 1) ≡ None → l ≡ []

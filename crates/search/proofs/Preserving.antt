@@ -32,7 +32,7 @@ enter_met : (s : Search) (v x : ℕ) → ¬ (s.mark x ≡ Fresh) → ¬ ((enter 
 unfolding put
 enter_met s v x n g = grind arith
 
-close_met : (t : Search) (v x : ℕ) → ¬ (t.mark x ≡ Fresh) → ¬ ((close t v).mark x ≡ Fresh)
+pub close_met : (t : Search) (v x : ℕ) → ¬ (t.mark x ≡ Fresh) → ¬ ((close t v).mark x ≡ Fresh)
 close_met t v x n g = elim (put_all_cases t.mark (down_to v t.stack) Closed x) [ inl p ↦ closed_not_fresh p.1 g | inr p ↦ n (sym p.1 ∙ g) ]
 
 pub met_preserved : Preserved StaysMet
